@@ -1,0 +1,6 @@
+//! The values of the template language.
+#![tactic(auto)]
+
+mod raise;
+
+pub use raise::Raise;
