@@ -1,0 +1,12 @@
+//! Templates: how they are read, and how they are cut into statics and places.
+#![tactic(auto)]
+
+mod cutting;
+mod name;
+mod read;
+mod template;
+
+pub use cutting::{Compiled, compile};
+pub use name::is_name;
+pub use read::TemplateFault;
+pub use template::{Node, Nodes};
