@@ -9,10 +9,10 @@ use Rattle.std.proofs.lemmas.Map.Lookups.{exact_bytes}
 use Rattle.text_core.specs.declared.by_key.KeyValue.{KeyValue}
 use Rattle.text_core.specs.Keyed.{is_before, ascend, keys, Ascending, entry, lookup, with_key, without_key, value_at}
 
-abbrev order : List ℕ → List ℕ → Ordering
+abbrev pub order : List ℕ → List ℕ → Ordering
 order = slice_cmp nat_cmp
 
-both_of : (a b : Bool) → (a && b) ≡ true → (a ≡ true) × (b ≡ true)
+pub both_of : (a b : Bool) → (a && b) ≡ true → (a ≡ true) × (b ≡ true)
 both_of true true h = (refl, refl)
 both_of true false h = cc
 both_of false b h = cc
@@ -26,7 +26,7 @@ is_less Equal h = cc
 is_less Greater h = cc
 
 -- a key below another is below what that is below
-below_trans : (k l m : List ℕ) → is_lt (order k l) ≡ true → is_lt (order l m) ≡ true → is_lt (order k m) ≡ true
+pub below_trans : (k l m : List ℕ) → is_lt (order k l) ≡ true → is_lt (order l m) ≡ true → is_lt (order k m) ≡ true
 below_trans k l m h g = ap is_lt (nat_list_cmp_total.trans k l m (is_less _ h) (is_less _ g))
 
 turned : (k l : List ℕ) → order k l ≡ Greater → is_lt (order l k) ≡ true

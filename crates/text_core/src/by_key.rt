@@ -1,9 +1,11 @@
 //! A map from text, which contracts see as its entries in byte order of their keys.
 ghost use Rattle.std.specs.Prelude.{◌≡◌, ◌<◌, ◌≤◌, ◌↔◌, [], ◌∷◌, ◌++◌, IsTrue, length, map, insert, remove, slice_set, IfOk, IfErr, OnOk, OnErr, MatchOption, None};
 ghost use Rattle.std.specs.Option.{option_copied, is_some};
-ghost use Rattle.text_core.specs.Keyed.{Ascending, entry, lookup, with_key, without_key, value_at};
+ghost use Rattle.std.specs.Str.{bytes_eq};
+ghost use Rattle.std.specs.List.{IsDistinct};
+ghost use Rattle.text_core.specs.Keyed.{keys, Ascending, entry, lookup, with_key, without_key, value_at};
 
-use crate::{OutOfMemory, Text};
+use crate::{Names, OutOfMemory, Seq, Text};
 use std::alloc::Global;
 use std::cmp::Ordering;
 use std::marker::Model;
@@ -75,6 +77,18 @@ impl<T> ByKey<T> {
         ensures { IsTrue result ↔ (self.now ≡ []) }
     {
         self.entries.is_empty()
+    }
+
+    /// A copy of the keys, in byte order, none twice.
+    pub fn keys(&self, alloc: Global) -> Result<Names, OutOfMemory>
+        ensures keys { IfOk result (λ names. names ≡ keys self.now) }
+        ensures distinct { IfOk result (IsDistinct bytes_eq) }
+    {
+        let mut names = Seq::new(alloc);
+        for entry in &self.entries {
+            names.push(entry.key.copy(alloc)?)?;
+        }
+        Ok(names)
     }
 
     /// The value at a key.

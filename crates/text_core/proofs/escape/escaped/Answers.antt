@@ -1,5 +1,4 @@
-use Rattle.std.proofs.Common.{◌≡◌, ◌<◌, ◌++◌, length, get_or, Some, None, sym, ap, ◌∙◌, arith, refl, drop, take, ◌-◌, ◌+◌}
-use Rattle.std.specs.List.{slice_range}
+use Rattle.std.proofs.Common.{◌≡◌, ◌<◌, ◌++◌, length, get_or, Some, None, sym, ap, ◌∙◌, arith, drop, ◌+◌}
 use Rattle.std.proofs.lemmas.Str.{IsCharBoundary-start, IsCharBoundary-after_ascii}
 use Rattle.text_core.specs.Escape.{entity_of, escape_text}
 use Rattle.text_core.proofs.Escapes.{entity_step, plain_step, entity_is_ascii, nothing_yet_from}
