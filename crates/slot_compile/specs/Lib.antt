@@ -1,3 +1,4 @@
 pub mod Name
 pub mod Template
 pub mod Reading
+pub mod Parts

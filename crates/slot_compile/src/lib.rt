@@ -8,5 +8,5 @@ mod template;
 
 pub use cutting::{Compiled, compile};
 pub use name::is_name;
-pub use read::TemplateFault;
+pub use read::{TemplateFault, read_template};
 pub use template::{Node, Nodes};
