@@ -9,6 +9,8 @@ use Rattle.std.specs.declared.cmp.Ordering.TheVariants.{Less}
 use Rattle.std.specs.Cmp.Lexicographic.{slice_cmp}
 use Rattle.std.proofs.lemmas.Bool.Decides.{leb_tells}
 use Rattle.std.proofs.lemmas.Bool.{le-leb, lt-leb}
+use Rattle.std.proofs.Math.Dec.{leb-zero}
+use Rattle.std.proofs.Math.ListN.{drop_of_length-le}
 use Rattle.std.proofs.lemmas.List.{map-append}
 use Rattle.serde_json.specs.Data.{Data, Items, no_items, item, Members, no_members, member, depth, items_depth, members_depth}
 use Rattle.serde_json.specs.View.{view as json_view, items_view, members_view}
@@ -109,14 +111,15 @@ reads_none m js i j vs whole h is none so_far =
     sym so_far ∙ ap (option_map (add_values vs)) front
 
 -- one more member was read
-pub members_on : (m : ℕ) (k : String Global) (j : Json) (js : List (String Global × Json)) (es : List (KeyValue Value)) (v : Value) (whole : Option Assigns)
-    → value_within m (json_view j) ≡ Some (view v) → option_map (add_assigns (map (on_value view) es)) (assigns_within m (members_view ((k, j) ∷ js))) ≡ whole
-    → option_map (add_assigns (map (on_value view) (es ++ entry (string_bytes k) v ∷ []))) (assigns_within m (members_view js)) ≡ whole
-members_on m k j js es v whole read so_far =
+pub members_on : (m : ℕ) (k : String Global) (j : Json) (js : List (String Global × Json)) (es : List (KeyValue Value)) (name : List ℕ) (v : Value) (whole : Option Assigns)
+    → name ≡ string_bytes k → value_within m (json_view j) ≡ Some (view v) → option_map (add_assigns (map (on_value view) es)) (assigns_within m (members_view ((k, j) ∷ js))) ≡ whole
+    → option_map (add_assigns (map (on_value view) (es ++ entry name v ∷ []))) (assigns_within m (members_view js)) ≡ whole
+members_on m k j js es name v whole same read so_far =
     let rest : Option Assigns = assigns_within m (members_view js) in
     let front : assigns_within m (members_view ((k, j) ∷ js)) ≡ option_map (assign (string_bytes k) (view v)) rest =
       assigns_within_member m (string_bytes k) (json_view j) (members_view js) ∙ ap (option_and_then (λ w. option_map (assign (string_bytes k) w) rest)) read in
-    ap (λ l. option_map (add_assigns l) rest) (map-append (on_value view) es (entry (string_bytes k) v ∷ []))
+    ap (λ n. option_map (add_assigns (map (on_value view) (es ++ entry n v ∷ []))) rest) same
+    ∙ ap (λ l. option_map (add_assigns l) rest) (map-append (on_value view) es (entry (string_bytes k) v ∷ []))
     ∙ as_well _ _ rest (add_assigns_snoc (map (on_value view) es) (entry (string_bytes k) (view v)))
     ∙ sym (through (add_assigns (map (on_value view) es)) (assign (string_bytes k) (view v)) rest)
     ∙ ap (option_map (add_assigns (map (on_value view) es))) (sym front) ∙ so_far
@@ -140,3 +143,26 @@ unfolding IsStrictlySortedBy
 sorted_ascends [] h = refl
 sorted_ascends (m ∷ []) h = refl
 sorted_ascends (m ∷ n ∷ ms) h = rw (ap is_lt h.0.0) (sorted_ascends (n ∷ ms) h.1)
+
+nothing_within : (m : ℕ) → values_within m no_items ≡ Some no_values
+nothing_within m = ap (λ b. if b then Some no_values else None) (leb-zero m)
+
+no_member_within : (m : ℕ) → assigns_within m no_members ≡ Some no_assigns
+no_member_within m = ap (λ b. if b then Some no_assigns else None) (leb-zero m)
+
+-- all items were read
+pub reads_all : (m : ℕ) (js : List Json) (i : ℕ) (vs : List Value) (whole : Option Values) → length js ≤ i
+    → option_map (add_values (map view vs)) (values_within m (items_view (drop i js))) ≡ whole → whole ≡ Some (values_of (map view vs))
+reads_all m js i vs whole h so_far =
+    sym so_far ∙ ap (λ l. option_map (add_values (map view vs)) (values_within m (items_view l))) (drop_of_length-le js h)
+    ∙ ap (option_map (add_values (map view vs))) (nothing_within m) ∙ ap Some (add_values_none (map view vs))
+
+-- all members were read
+pub members_all : (m : ℕ) (es : List (KeyValue model.Value)) (whole : Option Assigns)
+    → option_map (add_assigns es) (assigns_within m no_members) ≡ whole → whole ≡ Some (assigns_of es)
+members_all m es whole so_far = sym so_far ∙ ap (option_map (add_assigns es)) (no_member_within m) ∙ ap Some (add_assigns_none es)
+
+-- before the first
+pub none_before : (o : Option Assigns) → option_map (add_assigns []) o ≡ o
+none_before None = refl
+none_before (Some ws) = refl

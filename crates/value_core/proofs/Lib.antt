@@ -3,3 +3,4 @@ pub mod Order
 pub mod Views
 pub mod FromJson
 pub mod ToJson
+pub mod Examples

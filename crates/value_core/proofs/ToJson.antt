@@ -1,9 +1,10 @@
 -- Values written as JSON, item by item.
-use Rattle.std.proofs.Common.{◌≡◌, ℕ, suc, ◌+◌, ◌<◌, List, [], ◌∷◌, ◌++◌, length, get_or, drop, map, String, string_bytes, Bool, true, false, ◌&&◌, Option, Some, None, option_map, option_and_then, refl, sym, ap, ◌∙◌, subst, arith, Less, Greater, nat_cmp}
+use Rattle.std.proofs.Common.{◌≡◌, ℕ, suc, ◌+◌, ◌<◌, ◌≤◌, List, [], ◌∷◌, ◌++◌, length, get_or, drop, map, String, string_bytes, Bool, true, false, ◌&&◌, Option, Some, None, option_map, option_and_then, refl, sym, ap, ◌∙◌, subst, arith, Less, Greater, nat_cmp}
 use Rattle.std.specs.Ordering.{ordering_reverse, match_ordering}
 use Rattle.std.specs.Cmp.{IsTotalOrder}
 use Rattle.std.specs.Cmp.Lexicographic.{slice_cmp, nat_list_cmp_total}
 use Rattle.std.proofs.lemmas.List.{map-append}
+use Rattle.std.proofs.Math.ListN.{drop_of_length-le}
 use Rattle.serde_json.specs.Data.{Data, Items, no_items, item, Members, no_members, member, put}
 use Rattle.serde_json.specs.View.{view as json_view, items_of, items_view}
 use Rattle.serde_json.specs.declared.value.Value as json
@@ -103,3 +104,15 @@ puts_none es i e ms whole h is none so_far =
     let front : json_of_assigns (assigns_view (drop i es)) ≡ None =
       ap (λ l. json_of_assigns (assigns_view l)) (cons_at es i e h is) ∙ ap (option_and_then (λ c. option_map (member e.key c) rest)) none in
     sym so_far ∙ ap (option_map (add_members ms)) front
+
+-- all items were written
+pub writes_all : (vs : List Value) (i : ℕ) (ds : List Data) (whole : Option Items) → length vs ≤ i
+    → option_map (add_items ds) (json_of_values (values_view (drop i vs))) ≡ whole → whole ≡ Some (items_of ds)
+writes_all vs i ds whole h so_far =
+    sym so_far ∙ ap (λ l. option_map (add_items ds) (json_of_values (values_view l))) (drop_of_length-le vs h) ∙ ap Some (add_items_none ds)
+
+-- all members were written
+pub puts_all : (es : List (KeyValue Value)) (i : ℕ) (ms : Members) (whole : Option Members) → length es ≤ i
+    → option_map (add_members ms) (json_of_assigns (assigns_view (drop i es))) ≡ whole → whole ≡ Some ms
+puts_all es i ms whole h so_far =
+    sym so_far ∙ ap (λ l. option_map (add_members ms) (json_of_assigns (assigns_view l))) (drop_of_length-le es h) ∙ ap Some (add_members_none ms)
