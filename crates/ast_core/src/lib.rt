@@ -1,0 +1,2 @@
+//! The syntax of templates.
+#![tactic(auto)]
