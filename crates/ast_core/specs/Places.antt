@@ -1,7 +1,7 @@
 -- The places of a node, and its constant text cut at them.
 use Rattle.std.specs.Prelude.{ℕ, List, [], ◌∷◌, ◌++◌, Bool, false, ◌||◌, if◌then◌else◌, codes, ◌≡◌}
 use Rattle.std.specs.Str.{bytes_eq}
-use Rattle.ast_core.specs.Syntax.{Attributes, no_attributes, written, valued, spread_of, Node, text_node, element, at_place, Place, attribute, spread, if_place, case_place, stream_place, Nodes, no_nodes, node, Clauses, no_clauses, clause}
+use Rattle.ast_core.specs.Syntax.{Written, double_quoted, single_quoted, bare, Attributes, no_attributes, written, valued, spread_of, module_of, Node, text_node, element, at_place, Place, attribute, spread, if_place, case_place, stream_place, Nodes, no_nodes, node, Clauses, no_clauses, clause}
 use Rattle.ast_core.specs.Free.{one_of}
 
 -- void elements have no end tag
@@ -18,18 +18,25 @@ opening t = 60 ∷ t
 abbrev pub closing : List ℕ → List ℕ
 closing t = if is_void t then [] else codes "</" ++ (t ++ codes ">")
 
+-- an attribute as it is written, with its leading space
+abbrev pub written_text : List ℕ → Written → List ℕ
+written_text n (double_quoted t) = 32 ∷ (n ++ (codes "=\"" ++ (t ++ codes "\"")))
+written_text n (single_quoted t) = 32 ∷ (n ++ (codes "='" ++ (t ++ codes "'")))
+written_text n bare = 32 ∷ n
+
 -- the places of nodes, in order
 abbrev pub places_of_attributes : Attributes → List Place
 places_of_attributes no_attributes = []
-places_of_attributes (written t as') = places_of_attributes as'
-places_of_attributes (valued n e as') = attribute n e ∷ places_of_attributes as'
-places_of_attributes (spread_of e as') = spread e ∷ places_of_attributes as'
+places_of_attributes (written n w xs) = places_of_attributes xs
+places_of_attributes (valued n e xs) = attribute n e ∷ places_of_attributes xs
+places_of_attributes (spread_of e xs) = spread e ∷ places_of_attributes xs
+places_of_attributes (module_of m xs) = places_of_attributes xs
 
 abbrev mutual
   pub places_of : Node → List Place
   places_of (text_node t) = []
-  places_of (element t as' ns) = places_of_attributes as' ++ places_in ns
-  places_of (at_place p) = p ∷ []
+  places_of (element l t xs ns) = places_of_attributes xs ++ places_in ns
+  places_of (at_place l p) = p ∷ []
 
   pub places_in : Nodes → List Place
   places_in no_nodes = []
@@ -45,16 +52,17 @@ join_statics (s ∷ s' ∷ ss) ys = s ∷ join_statics (s' ∷ ss) ys
 -- the constant text of nodes, cut at their places
 abbrev pub cut_attributes : Attributes → List (List ℕ)
 cut_attributes no_attributes = [] ∷ []
-cut_attributes (written t as') = join_statics (t ∷ []) (cut_attributes as')
-cut_attributes (valued n e as') = [] ∷ cut_attributes as'
-cut_attributes (spread_of e as') = [] ∷ cut_attributes as'
+cut_attributes (written n w xs) = join_statics (written_text n w ∷ []) (cut_attributes xs)
+cut_attributes (valued n e xs) = [] ∷ cut_attributes xs
+cut_attributes (spread_of e xs) = [] ∷ cut_attributes xs
+cut_attributes (module_of m xs) = cut_attributes xs
 
 abbrev mutual
   pub cut_node : Node → List (List ℕ)
   cut_node (text_node t) = t ∷ []
-  cut_node (element t as' ns) =
-      join_statics (opening t ∷ []) (join_statics (cut_attributes as') (join_statics (codes ">" ∷ []) (join_statics (cut ns) (closing t ∷ []))))
-  cut_node (at_place p) = [] ∷ [] ∷ []
+  cut_node (element l t xs ns) =
+      join_statics (opening t ∷ []) (join_statics (cut_attributes xs) (join_statics (codes ">" ∷ []) (join_statics (cut ns) (closing t ∷ []))))
+  cut_node (at_place l p) = [] ∷ [] ∷ []
 
   pub cut : Nodes → List (List ℕ)
   cut no_nodes = [] ∷ []
@@ -68,13 +76,13 @@ abbrev mutual
 
   pub streams_of : Node → List (List ℕ)
   streams_of (text_node t) = []
-  streams_of (element t as' ns) = streams_in ns
-  streams_of (at_place p) = streams_at p
+  streams_of (element l t xs ns) = streams_in ns
+  streams_of (at_place l p) = streams_at p
 
   pub streams_at : Place → List (List ℕ)
   streams_at (if_place t a b) = streams_in a ++ streams_in b
   streams_at (case_place e cs) = streams_in_clauses cs
-  streams_at (stream_place s x p body) = s ∷ []
+  streams_at (stream_place s x p ns) = s ∷ []
   streams_at _ = []
 
   pub streams_in_clauses : Clauses → List (List ℕ)

@@ -4,7 +4,7 @@ use Rattle.std.specs.Str.{bytes_eq}
 
 pub data Position : Type 0 where
   at_end : Position
-  at_place : ℕ → Position
+  at_index : ℕ → Position
 
 pub data Limit : Type 0 where
   no_limit : Limit
@@ -39,7 +39,7 @@ put_at (suc n) r (q ∷ rs) = q ∷ put_at n r rs
 
 abbrev pub placed : {X : Type 0} → Position → Row X → List (Row X) → List (Row X)
 placed at_end r rs = rs ++ r ∷ []
-placed (at_place n) r rs = put_at n r rs
+placed (at_index n) r rs = put_at n r rs
 
 abbrev pub pruned : {X : Type 0} → Limit → List (Row X) → List (Row X)
 pruned no_limit rs = rs

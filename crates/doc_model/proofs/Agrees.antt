@@ -1,177 +1,24 @@
 -- Two environments that agree on the names of an expression or of nodes give the same value and the same whole tree.
-use Rattle.std.proofs.Common.{◌≡◌, ℕ, zero, suc, List, [], ◌∷◌, ◌++◌, map, Result, Ok, Err, Option, Some, None, Bool, true, false, ◌&&◌, if◌then◌else◌, refl, sym, ap, ◌∙◌, subst}
-use Rattle.std.specs.Str.{bytes_eq}
+use Rattle.std.proofs.Common.{◌≡◌, ℕ, zero, suc, List, [], ◌∷◌, ◌++◌, map, Ok, Err, Option, Some, None, Bool, true, false, ◌&&◌, if◌then◌else◌, refl, ap, ◌∙◌, subst}
 use Rattle.diff_tree.specs.Tree as tr
-use Rattle.value_core.specs.Value.{Value, list, text, boolean, tuple, map_of, Values, no_values, value, Assigns, no_assigns, assign, same}
-use Rattle.ast_core.specs.Syntax.{Name, at, var, Expr, number, text_of, nil_of, boolean_of, name, list_of, map_with, field, plus, equal, and_also, if_else, Exprs, no_exprs, expr, Pairs, no_pairs, pair, Parts, no_parts, plain, put_part, Pattern, any, named, literal, tuple_like, list_like, map_like, Patterns, no_patterns, pattern, PatternPairs, no_keys, key, Place, put, attribute, spread, if_place, case_place, for_place, call, render_slot, live_call, stream_place, Node, text_node, element, at_place, Nodes, no_nodes, node, Clauses, no_clauses, clause, Entries, no_entries, entry, Attributes, no_attributes, written, valued, spread_of}
-use Rattle.ast_core.specs.Free.{one_of, without, bound, bound_all, bound_pairs, free, free_exprs, free_pairs, free_parts, free_nodes, free_node, free_place, free_clauses, free_entries, free_attributes}
-use Rattle.doc_model.specs.Environment.{Env, Component, Stream, get, bind, inside, lookup, over, both_bind, binding, binding_all, binding_pairs, bindings, reading, captured_assigns, captured_variables, with_option, with_key, find}
-use Rattle.doc_model.specs.Evaluation.{Res, then_do, both, on_res, or_raise, eval_expr, eval_exprs, eval_pairs, eval_parts, printed, is_true, absent, field_of, sum_of, keep_last}
+use Rattle.value_core.specs.Value.{Value, Values, no_values, value, Assigns, same}
+use Rattle.ast_core.specs.Syntax.{at, Expr, number, index, Pattern, any, pattern, Place, put, attribute, spread, if_place, case_place, for_place, call, render_slot, live_call, stream_place, Node, text_node, element, at_place, Nodes, no_nodes, node, Clauses, no_clauses, clause, Attributes, no_attributes, written, valued, spread_of, module_of}
+use Rattle.ast_core.specs.Free.{without, bound, free_names, free_pairs, free_nodes, free_node, free_place, free_clauses, free_entries, free_attributes}
+use Rattle.doc_model.specs.Environment.{Env, Component, Stream, bind, inside, binding, bindings, reading, find}
+use Rattle.doc_model.specs.Evaluation.{Res, then_do, on_res, eval_expr, printed, is_true}
 use Rattle.doc_model.specs.Printing.{escape_text, print_attribute, print_spread}
 use Rattle.value_core.specs.declared.raise.Raise.TheVariants.{NoAssign, NoClause}
 use Rattle.diff_tree.specs.Tree.{tree, row}
 use Rattle.doc_model.specs.Trace.{Items, item, Item, met_text, met_branch, met_rows, met_call, met_slots, met_component, ItemRows, item_row, Slots, slot_of}
 use Rattle.doc_model.specs.Whole.{whole_places, whole_place, whole_rows, whole_slots, rows_tree, slots_tree}
 use Rattle.doc_model.specs.Left.{SameNumbers}
-use Rattle.doc_model.specs.Scopes.{Site, Deeper, Captured, slot_entry, with_entries, callee, component_of, component_scope, or_none, id_of, slot_scope, row_scopes, items_of, slots_of, Chosen, chosen, later}
+use Rattle.doc_model.specs.Scopes.{Site, Deeper, Captured, callee, component_of, component_scope, or_none, id_of, slot_scope, row_scopes, slots_of, Chosen, chosen, later}
 use Rattle.ast_core.specs.Places.{cut, places_in, places_of, places_of_attributes}
 use Rattle.doc_model.specs.Tracing.{trace, trace_places, trace_place, trace_rows, trace_slot, trace_slots, trace_else}
-use Rattle.doc_model.proofs.Results.{On, on_made, Pair, pair_err, pair_made, pair_same, pair_bind, pair_both}
-
--- the names have the same values
-abbrev pub Agree : Env → Env → List Name → Type 0
-Agree a b [] = Unit {0}
-Agree a b (n ∷ ns) = (get a n ≡ get b n) × Agree a b ns
-
-pub agree_from : (a b : Env) (ns : List Name) → reading a ns ≡ reading b ns → Agree a b ns
-agree_from a b [] h = tt
-agree_from a b (n ∷ ns) h =
-    let e : get a n ≡ get b n = cc in
-    let f : reading a ns ≡ reading b ns = cc in
-    (e, agree_from a b ns f)
-
-pub agree_reading : (a b : Env) (ns : List Name) → Agree a b ns → reading a ns ≡ reading b ns
-agree_reading a b [] h = refl
-agree_reading a b (n ∷ ns) h = let e = h.0 in let f = agree_reading a b ns h.1 in cc
-
-pub agree_left : (a b : Env) (ms ns : List Name) → Agree a b (ms ++ ns) → Agree a b ms
-agree_left a b [] ns h = tt
-agree_left a b (m ∷ ms) ns h = (h.0, agree_left a b ms ns h.1)
-
-pub agree_right : (a b : Env) (ms ns : List Name) → Agree a b (ms ++ ns) → Agree a b ns
-agree_right a b [] ns h = h
-agree_right a b (m ∷ ms) ns h = agree_right a b ms ns h.1
-
--- only assigns and variables count
-pub agree_cast : (a b a' b' : Env) (ns : List Name) → a.assigns ≡ a'.assigns → a.variables ≡ a'.variables → b.assigns ≡ b'.assigns → b.variables ≡ b'.variables → Agree a b ns → Agree a' b' ns
-agree_cast a b a' b' [] e f g h k = tt
-agree_cast a b a' b' (at n ∷ ns) e f g h k = (ap (lookup n) (sym e) ∙ k.0 ∙ ap (lookup n) g, agree_cast a b a' b' ns e f g h k.1)
-agree_cast a b a' b' (var n ∷ ns) e f g h k = (ap (lookup n) (sym f) ∙ k.0 ∙ ap (lookup n) h, agree_cast a b a' b' ns e f g h k.1)
-
-pub agree_same : (a b : Env) (ns : List Name) → a.assigns ≡ b.assigns → a.variables ≡ b.variables → Agree a b ns
-agree_same a b [] e f = tt
-agree_same a b (at n ∷ ns) e f = (ap (lookup n) e, agree_same a b ns e f)
-agree_same a b (var n ∷ ns) e f = (ap (lookup n) f, agree_same a b ns e f)
-
--- a pattern binds its names
-abbrev keys : Assigns → List (List ℕ)
-keys no_assigns = []
-keys (assign k v as') = k ∷ keys as'
-
-keys-over : (as' bs : Assigns) → keys (over as' bs) ≡ keys as' ++ keys bs
-keys-over no_assigns bs = refl
-keys-over (assign k v as') bs = ap (λ ks. k ∷ ks) (keys-over as' bs)
-
-abbrev Binds : List (List ℕ) → Option Assigns → Type 0
-Binds xs None = Unit {0}
-Binds xs (Some as') = keys as' ≡ xs
-
-both_binds : (xs ys : List (List ℕ)) (o q : Option Assigns) → Binds xs o → Binds ys q → Binds (xs ++ ys) (both_bind o q)
-both_binds xs ys (Some as') (Some bs) h k = keys-over as' bs ∙ ap (λ l. l ++ keys bs) h ∙ ap (λ l. xs ++ l) k
-both_binds xs ys (Some as') None h k = tt
-both_binds xs ys None q h k = tt
-
-literal_binds : (c : Bool) → Binds [] (if c then Some no_assigns else None)
-literal_binds true = refl
-literal_binds false = tt
-
-found_binds : (p : Pattern) (o : Option Value) → ((v : Value) → Binds (bound p) (binding p v)) → Binds (bound p) (elim o [ None ↦ None | Some v ↦ binding p v ])
-found_binds p None h = tt
-found_binds p (Some v) h = h v
-
-mutual
-  pub binds : (p : Pattern) (v : Value) → Binds (bound p) (binding p v)
-  binds any v = refl
-  binds (named x) v = refl
-  binds (literal w) v = literal_binds (same w v)
-  binds (tuple_like ps) (tuple vs) = binds_all ps vs
-  binds (list_like ps) (list vs) = binds_all ps vs
-  binds (map_like ps) (map_of as') = binds_pairs ps as'
-  binds _ _ = tt
-
-  binds_all : (ps : Patterns) (vs : Values) → Binds (bound_all ps) (binding_all ps vs)
-  binds_all no_patterns no_values = refl
-  binds_all (pattern p ps) (value v vs) = both_binds (bound p) (bound_all ps) (binding p v) (binding_all ps vs) (binds p v) (binds_all ps vs)
-  binds_all _ _ = tt
-
-  binds_pairs : (ps : PatternPairs) (as' : Assigns) → Binds (bound_pairs ps) (binding_pairs ps as')
-  binds_pairs no_keys as' = refl
-  binds_pairs (key k p ps) as' =
-      both_binds (bound p) (bound_pairs ps) (elim (lookup k as') [ None ↦ None | Some v ↦ binding p v ]) (binding_pairs ps as')
-      (found_binds p (lookup k as') (λ v. binds p v)) (binds_pairs ps as')
-
-lookup_over : (as' us vs : Assigns) (y : List ℕ) (c : Bool) → one_of y (keys as') ≡ c → (c ≡ false → lookup y us ≡ lookup y vs) → lookup y (over as' us) ≡ lookup y (over as' vs)
-lookup_over no_assigns us vs y c e h = h (sym e)
-lookup_over (assign k v as') us vs y c e h = by_key (λ q. lookup_over as' us vs y c q h) (bytes_eq y k) e
-  where
-    by_key : (one_of y (keys as') ≡ c → lookup y (over as' us) ≡ lookup y (over as' vs)) → (d : Bool) → (if d then true else one_of y (keys as')) ≡ c → (if d then Some v else lookup y (over as' us)) ≡ (if d then Some v else lookup y (over as' vs))
-    by_key rest true q = refl
-    by_key rest false q = rest q
-
-split_without : (c : Bool) (a b : Env) (y : List ℕ) (xs : List (List ℕ)) (ns : List Name) → Agree a b (if c then without xs ns else var y ∷ without xs ns) → (c ≡ false → lookup y a.variables ≡ lookup y b.variables) × Agree a b (without xs ns)
-split_without true a b y xs ns k = (λ e. cc, k)
-split_without false a b y xs ns k = (λ e. k.0, k.1)
-
-pub agree_bound : (a b : Env) (as' : Assigns) (xs : List (List ℕ)) (ns : List Name) → keys as' ≡ xs → Agree a b (without xs ns) → Agree (bind as' a) (bind as' b) ns
-agree_bound a b as' xs [] e h = tt
-agree_bound a b as' xs (at k ∷ ns) e h = (h.0, agree_bound a b as' xs ns e h.1)
-agree_bound a b as' xs (var y ∷ ns) e h =
-    let s = split_without (one_of y xs) a b y xs ns h in
-    (lookup_over as' a.variables b.variables y (one_of y xs) (ap (one_of y) e) s.0, agree_bound a b as' xs ns e s.1)
-
-mutual
-  pub eval_agrees : (e : Expr) (a b : Env) → Agree a b (free e) → eval_expr a e ≡ eval_expr b e
-  eval_agrees (number n) a b h = refl
-  eval_agrees (text_of ps) a b h = ap (on_res text) (parts_agree ps a b h)
-  eval_agrees nil_of a b h = refl
-  eval_agrees (boolean_of c) a b h = refl
-  eval_agrees (name n) a b h = ap (λ o. or_raise o (absent n)) h.0
-  eval_agrees (list_of es) a b h = ap (on_res list) (exprs_agree es a b h)
-  eval_agrees (map_with ps) a b h = ap (on_res map_of) (pairs_agree ps a b h)
-  eval_agrees (field e k) a b h = ap (λ r. then_do r (field_of k)) (eval_agrees e a b h)
-  eval_agrees (plus e f) a b h =
-      ap (λ r. then_do r (λ x. then_do (eval_expr a f) (sum_of x))) (eval_agrees e a b (agree_left a b (free e) (free f) h))
-      ∙ ap (λ r. then_do (eval_expr b e) (λ x. then_do r (sum_of x))) (eval_agrees f a b (agree_right a b (free e) (free f) h))
-  eval_agrees (equal e f) a b h =
-      ap (λ r. both (λ x y. boolean (same x y)) r (eval_expr a f)) (eval_agrees e a b (agree_left a b (free e) (free f) h))
-      ∙ ap (both (λ x y. boolean (same x y)) (eval_expr b e)) (eval_agrees f a b (agree_right a b (free e) (free f) h))
-  eval_agrees (and_also e f) a b h =
-      ap (λ r. then_do r (λ x. if is_true x then eval_expr a f else Ok x)) (eval_agrees e a b (agree_left a b (free e) (free f) h))
-      ∙ ap (λ r. then_do (eval_expr b e) (λ x. if is_true x then r else Ok x)) (eval_agrees f a b (agree_right a b (free e) (free f) h))
-  eval_agrees (if_else t e f) a b h =
-      let l = agree_left a b (free t ++ free e) (free f) h in
-      ap (λ r. then_do r (λ x. if is_true x then eval_expr a e else eval_expr a f)) (eval_agrees t a b (agree_left a b (free t) (free e) l))
-      ∙ ap (λ r. then_do (eval_expr b t) (λ x. if is_true x then r else eval_expr a f)) (eval_agrees e a b (agree_right a b (free t) (free e) l))
-      ∙ ap (λ r. then_do (eval_expr b t) (λ x. if is_true x then eval_expr b e else r)) (eval_agrees f a b (agree_right a b (free t ++ free e) (free f) h))
-
-  exprs_agree : (es : Exprs) (a b : Env) → Agree a b (free_exprs es) → eval_exprs a es ≡ eval_exprs b es
-  exprs_agree no_exprs a b h = refl
-  exprs_agree (expr e es) a b h =
-      ap (λ r. both value r (eval_exprs a es)) (eval_agrees e a b (agree_left a b (free e) (free_exprs es) h))
-      ∙ ap (both value (eval_expr b e)) (exprs_agree es a b (agree_right a b (free e) (free_exprs es) h))
-
-  pub pairs_agree : (es : Pairs) (a b : Env) → Agree a b (free_pairs es) → eval_pairs a es ≡ eval_pairs b es
-  pairs_agree no_pairs a b h = refl
-  pairs_agree (pair k e es) a b h =
-      ap (λ r. both (λ v as'. keep_last k v as' (lookup k as')) r (eval_pairs a es)) (eval_agrees e a b (agree_left a b (free e) (free_pairs es) h))
-      ∙ ap (both (λ v as'. keep_last k v as' (lookup k as')) (eval_expr b e)) (pairs_agree es a b (agree_right a b (free e) (free_pairs es) h))
-
-  parts_agree : (es : Parts) (a b : Env) → Agree a b (free_parts es) → eval_parts a es ≡ eval_parts b es
-  parts_agree no_parts a b h = refl
-  parts_agree (plain t es) a b h = ap (on_res (λ s. t ++ s)) (parts_agree es a b h)
-  parts_agree (put_part e es) a b h =
-      ap (λ r. both (λ t s. t ++ s) (then_do r printed) (eval_parts a es)) (eval_agrees e a b (agree_left a b (free e) (free_parts es) h))
-      ∙ ap (both (λ t s. t ++ s) (then_do (eval_expr b e) printed)) (parts_agree es a b (agree_right a b (free e) (free_parts es) h))
-
-captured_assigns_agree : (ns : List Name) (a b : Env) → Agree a b ns → captured_assigns a ns ≡ captured_assigns b ns
-captured_assigns_agree [] a b h = refl
-captured_assigns_agree (at k ∷ ns) a b h = ap (λ o. with_option k o (captured_assigns a ns)) h.0 ∙ ap (with_option k (get b (at k))) (captured_assigns_agree ns a b h.1)
-captured_assigns_agree (var k ∷ ns) a b h = captured_assigns_agree ns a b h.1
-
-captured_variables_agree : (ns : List Name) (a b : Env) → Agree a b ns → captured_variables a ns ≡ captured_variables b ns
-captured_variables_agree [] a b h = refl
-captured_variables_agree (var k ∷ ns) a b h = ap (λ o. with_option k o (captured_variables a ns)) h.0 ∙ ap (with_option k (get b (var k))) (captured_variables_agree ns a b h.1)
-captured_variables_agree (at k ∷ ns) a b h = captured_variables_agree ns a b h.1
+use Rattle.doc_model.proofs.Results.{On, on_made, Pair, pair_err, pair_same, pair_both}
+use Rattle.doc_model.specs.Calls.{items_of, call_assigns, live_assigns, module_in}
+use Rattle.doc_model.proofs.Names.{Agree, agree_left, agree_right, agree_cast, agree_same, Binds, binds, agree_bound, eval_agrees, pairs_agree}
+use Rattle.doc_model.proofs.Calling.{call_agrees_on, live_agrees_on}
 
 -- the chosen clause's names agree
 agree_chosen : (v : Value) (cs : Clauses) (a b : Env) → Agree a b (free_clauses cs) → On (λ c. Agree (bind c.variables a) (bind c.variables b) (free_nodes c.nodes)) (chosen v cs)
@@ -182,15 +29,6 @@ agree_chosen v (clause p ns cs) a b k = by_binding (agree_chosen v cs a b (agree
         → On (λ c. Agree (bind c.variables a) (bind c.variables b) (free_nodes c.nodes)) (elim o [ None ↦ on_res later (chosen v cs) | Some as' ↦ Ok (record { index = 0; variables = as'; nodes = ns }) ])
     by_binding rest None e = on_made (λ (c : Chosen). Agree (bind c.variables a) (bind c.variables b) (free_nodes c.nodes)) later (chosen v cs) rest
     by_binding rest (Some as') e = agree_bound a b as' (bound p) (free_nodes ns) e (agree_left a b (without (bound p) (free_nodes ns)) (free_clauses cs) k)
-
-pub entries_agree : (es : Entries) (a b : Env) (as' : Assigns) → Agree a b (free_entries es) → with_entries a es as' ≡ with_entries b es as'
-entries_agree no_entries a b as' h = refl
-entries_agree (entry s n p ns es) a b as' h =
-    let names = without (bound p) (free_nodes ns) in
-    let l = agree_left a b names (free_entries es) h in
-    ap (λ c. with_key s (list (value (slot_entry n c (captured_variables a names)) no_values)) (with_entries a es as')) (captured_assigns_agree names a b l)
-    ∙ ap (λ c. with_key s (list (value (slot_entry n (captured_assigns b names) c) no_values)) (with_entries a es as')) (captured_variables_agree names a b l)
-    ∙ ap (with_key s (list (value (slot_entry n (captured_assigns b names) (captured_variables b names)) no_values))) (entries_agree es a b as' (agree_right a b names (free_entries es) h))
 
 -- the same whole tree
 abbrev pub SameTrees : Items → Items → Type 0
@@ -261,8 +99,8 @@ module _ (site : Site) (go to : Deeper Items) (h : Agrees go to) where
   pub for_agrees : (p : Pattern) (e : Expr) (body : Nodes) (a b : Env) → Agree a b (free_place (for_place p e body)) → SameNumbers a.components b.components
       → Pair SameRows (then_do (then_do (eval_expr a e) items_of) (λ vs. trace_rows go body (row_scopes a p vs))) (then_do (then_do (eval_expr b e) items_of) (λ vs. trace_rows to body (row_scopes b p vs)))
   for_agrees p e body a b k n =
-      pair_same SameRows _ _ _ _ (ap (λ r. then_do r items_of) (eval_agrees e a b (agree_left a b (free e) (without (bound p) (free_nodes body)) k)))
-      (λ vs. rows_agree vs p body a b (agree_right a b (free e) (without (bound p) (free_nodes body)) k) n)
+      pair_same SameRows _ _ _ _ (ap (λ r. then_do r items_of) (eval_agrees e a b (agree_left a b (free_names e) (without (bound p) (free_nodes body)) k)))
+      (λ vs. rows_agree vs p body a b (agree_right a b (free_names e) (without (bound p) (free_nodes body)) k) n)
 
   abbrev SameSlots : Slots → Slots → Type 0
   SameSlots ss ss' = whole_slots ss ≡ whole_slots ss'
@@ -297,21 +135,21 @@ module _ (site : Site) (go to : Deeper Items) (h : Agrees go to) where
   place_agrees (put e) a b k n s =
       fused (then_do (eval_expr a e) printed) (then_do (eval_expr b e) printed) (ap (λ r. then_do r printed) (eval_agrees e a b k))
     where
-      fused : (r t : Res (List ℕ)) → r ≡ t → Pair SameItem (on_res (λ t. met_text (reading a (free e)) (escape_text t)) r) (on_res (λ t. met_text (reading b (free e)) (escape_text t)) t)
-      fused r t q = subst (λ u. Pair SameItem (on_res (λ t. met_text (reading a (free e)) (escape_text t)) r) (on_res (λ t. met_text (reading b (free e)) (escape_text t)) u)) q (alike r)
+      fused : (r t : Res (List ℕ)) → r ≡ t → Pair SameItem (on_res (λ t. met_text (reading a (free_names e)) (escape_text t)) r) (on_res (λ t. met_text (reading b (free_names e)) (escape_text t)) t)
+      fused r t q = subst (λ u. Pair SameItem (on_res (λ t. met_text (reading a (free_names e)) (escape_text t)) r) (on_res (λ t. met_text (reading b (free_names e)) (escape_text t)) u)) q (alike r)
         where
-          alike : (u : Res (List ℕ)) → Pair SameItem (on_res (λ t. met_text (reading a (free e)) (escape_text t)) u) (on_res (λ t. met_text (reading b (free e)) (escape_text t)) u)
+          alike : (u : Res (List ℕ)) → Pair SameItem (on_res (λ t. met_text (reading a (free_names e)) (escape_text t)) u) (on_res (λ t. met_text (reading b (free_names e)) (escape_text t)) u)
           alike (Ok u) = refl
           alike (Err k) = tt
-  place_agrees (attribute m e) a b k n s = text_agrees (reading a (free e)) (reading b (free e)) _ _ (ap (λ r. then_do r (print_attribute m)) (eval_agrees e a b k))
-  place_agrees (spread e) a b k n s = text_agrees (reading a (free e)) (reading b (free e)) _ _ (ap (λ r. then_do r print_spread) (eval_agrees e a b k))
+  place_agrees (attribute m e) a b k n s = text_agrees (reading a (free_names e)) (reading b (free_names e)) _ _ (ap (λ r. then_do r (print_attribute m)) (eval_agrees e a b k))
+  place_agrees (spread e) a b k n s = text_agrees (reading a (free_names e)) (reading b (free_names e)) _ _ (ap (λ r. then_do r print_spread) (eval_agrees e a b k))
   place_agrees (if_place t ms ns) a b k n s =
-      let l = agree_left a b (free t ++ free_nodes ms) (free_nodes ns) k in
-      pair_same SameItem (eval_expr a t) (eval_expr b t) _ _ (eval_agrees t a b (agree_left a b (free t) (free_nodes ms) l))
-      (λ v. choice_agrees (is_true v) ms ns a b (agree_right a b (free t) (free_nodes ms) l) (agree_right a b (free t ++ free_nodes ms) (free_nodes ns) k) n s)
+      let l = agree_left a b (free_names t ++ free_nodes ms) (free_nodes ns) k in
+      pair_same SameItem (eval_expr a t) (eval_expr b t) _ _ (eval_agrees t a b (agree_left a b (free_names t) (free_nodes ms) l))
+      (λ v. choice_agrees (is_true v) ms ns a b (agree_right a b (free_names t) (free_nodes ms) l) (agree_right a b (free_names t ++ free_nodes ms) (free_nodes ns) k) n s)
   place_agrees (case_place e cs) a b k n s =
-      pair_same SameItem (eval_expr a e) (eval_expr b e) _ _ (eval_agrees e a b (agree_left a b (free e) (free_clauses cs) k))
-      (λ v. chosen_agrees (chosen v cs) (agree_chosen v cs a b (agree_right a b (free e) (free_clauses cs) k)))
+      pair_same SameItem (eval_expr a e) (eval_expr b e) _ _ (eval_agrees e a b (agree_left a b (free_names e) (free_clauses cs) k))
+      (λ v. chosen_agrees (chosen v cs) (agree_chosen v cs a b (agree_right a b (free_names e) (free_clauses cs) k)))
     where
       chosen_agrees : (r : Res Chosen) → On (λ c. Agree (bind c.variables a) (bind c.variables b) (free_nodes c.nodes)) r
           → Pair SameItem (then_do r (λ c. on_res (met_branch c.index (cut c.nodes)) (go (bind c.variables a) c.nodes))) (then_do r (λ c. on_res (met_branch c.index (cut c.nodes)) (to (bind c.variables b) c.nodes)))
@@ -323,25 +161,25 @@ module _ (site : Site) (go to : Deeper Items) (h : Agrees go to) where
       made (Ok x) (Ok y) q = ap (rows_tree (cut body)) q
       made (Ok x) (Err e) q = tt
       made (Err e) t q = tt
-  place_agrees (call t ps es) a b k n s =
+  place_agrees (call t xs content es) a b k n s =
       call_agrees (cut (site.template t)) _ _
-      (pair_same SameTrees (eval_pairs a ps) (eval_pairs b ps) _ _ (pairs_agree ps a b (agree_left a b (free_pairs ps) (free_entries es) k))
-      (λ as'. h (callee a (with_entries a es as')) (callee b (with_entries b es as')) (site.template t)
-      (agree_same (callee a (with_entries a es as')) (callee b (with_entries b es as')) (free_nodes (site.template t)) (entries_agree es a b as' (agree_right a b (free_pairs ps) (free_entries es) k)) refl) n refl))
+      (pair_same SameTrees (call_assigns a xs content es) (call_assigns b xs content es) _ _ (call_agrees_on xs content es a b k)
+      (λ as'. h (callee a as') (callee b as') (site.template t)
+      (agree_same (callee a as') (callee b as') (free_nodes (site.template t)) refl refl) n refl))
   place_agrees (render_slot e x) a b k n s =
-      made _ _ (pair_same SameSlots _ _ _ _ (ap (λ r. then_do r slots_of) (eval_agrees e a b (agree_left a b (free e) (free x) k)))
-      (λ cs. pair_same SameSlots (eval_expr a x) (eval_expr b x) _ _ (eval_agrees x a b (agree_right a b (free e) (free x) k)) (λ v. slots_agree cs a b v n)))
+      made _ _ (pair_same SameSlots _ _ _ _ (ap (λ r. then_do r (slots_of site)) (eval_agrees e a b (agree_left a b (free_names e) (free_names x) k)))
+      (λ cs. pair_same SameSlots (eval_expr a x) (eval_expr b x) _ _ (eval_agrees x a b (agree_right a b (free_names e) (free_names x) k)) (λ v. slots_agree cs a b v n)))
     where
       made : (r t : Res Slots) → Pair SameSlots r t → Pair SameItem (on_res met_slots r) (on_res met_slots t)
       made (Ok x) (Ok y) q = ap slots_tree q
       made (Ok x) (Err e) q = tt
       made (Err e) t q = tt
-  place_agrees (live_call m ps) a b k n s =
+  place_agrees (live_call xs content es) a b k n s =
       pair_then (λ (c : Component) (d : Component). c.number ≡ d.number) SameItem _ _ _ _
-      (pair_same (λ (c : Component) (d : Component). c.number ≡ d.number) (eval_pairs a ps) (eval_pairs b ps) _ _ (pairs_agree ps a b k) (λ as'. component_alike a b m as' n))
-      (λ c d e. made c d e (go (component_scope a c) (site.root m)) (to (component_scope b d) (site.root m)))
+      (pair_same (λ (c : Component) (d : Component). c.number ≡ d.number) (live_assigns a xs) (live_assigns b xs) _ _ (live_agrees_on xs a b k) (λ as'. component_alike a b (module_in xs) as' n))
+      (λ c d e. made c d e (go (component_scope a c) (site.root (module_in xs))) (to (component_scope b d) (site.root (module_in xs))))
     where
-      made : (c d : Component) → c.number ≡ d.number → (r t : Res Items) → Pair SameItem (on_res (met_component c.number (cut (site.root m))) r) (on_res (met_component d.number (cut (site.root m))) t)
+      made : (c d : Component) → c.number ≡ d.number → (r t : Res Items) → Pair SameItem (on_res (met_component c.number (cut (site.root (module_in xs)))) r) (on_res (met_component d.number (cut (site.root (module_in xs)))) t)
       made c d e (Ok x) (Ok y) = ap tr.number e
       made c d e (Ok x) (Err q) = tt
       made c d e (Err q) t = tt
@@ -356,18 +194,19 @@ module _ (site : Site) (go to : Deeper Items) (h : Agrees go to) where
   at_append a b [] qs h k = k
   at_append a b (p ∷ ps) qs h k = (h.0, at_append a b ps qs h.1 k)
 
-  at_attributes : (a b : Env) (as' : Attributes) → Agree a b (free_attributes as') → AgreeAt a b (places_of_attributes as')
+  at_attributes : (a b : Env) (xs : Attributes) → Agree a b (free_attributes xs) → AgreeAt a b (places_of_attributes xs)
   at_attributes a b no_attributes k = tt
-  at_attributes a b (written t as') k = at_attributes a b as' k
-  at_attributes a b (valued n e as') k = (agree_left a b (free e) (free_attributes as') k, at_attributes a b as' (agree_right a b (free e) (free_attributes as') k))
-  at_attributes a b (spread_of e as') k = (agree_left a b (free e) (free_attributes as') k, at_attributes a b as' (agree_right a b (free e) (free_attributes as') k))
+  at_attributes a b (written n w xs) k = at_attributes a b xs k
+  at_attributes a b (valued n e xs) k = (agree_left a b (free_names e) (free_attributes xs) k, at_attributes a b xs (agree_right a b (free_names e) (free_attributes xs) k))
+  at_attributes a b (spread_of e xs) k = (agree_left a b (free_names e) (free_attributes xs) k, at_attributes a b xs (agree_right a b (free_names e) (free_attributes xs) k))
+  at_attributes a b (module_of m xs) k = at_attributes a b xs k
 
   mutual
     at_node : (a b : Env) (n : Node) → Agree a b (free_node n) → AgreeAt a b (places_of n)
     at_node a b (text_node t) k = tt
-    at_node a b (element t as' ns) k =
-        at_append a b (places_of_attributes as') (places_in ns) (at_attributes a b as' (agree_left a b (free_attributes as') (free_nodes ns) k)) (at_nodes a b ns (agree_right a b (free_attributes as') (free_nodes ns) k))
-    at_node a b (at_place p) k = (k, tt)
+    at_node a b (element l t xs ns) k =
+        at_append a b (places_of_attributes xs) (places_in ns) (at_attributes a b xs (agree_left a b (free_attributes xs) (free_nodes ns) k)) (at_nodes a b ns (agree_right a b (free_attributes xs) (free_nodes ns) k))
+    at_node a b (at_place o p) k = (k, tt)
 
     at_nodes : (a b : Env) (ns : Nodes) → Agree a b (free_nodes ns) → AgreeAt a b (places_in ns)
     at_nodes a b no_nodes k = tt

@@ -1,11 +1,11 @@
 -- What holds of every trace: rows have their places' values, and streams stand only where an owner's nodes have them.
-use Rattle.std.proofs.Common.{◌≡◌, ℕ, zero, suc, ◌+◌, List, [], ◌∷◌, ◌++◌, length, map, Result, Ok, Err, Option, Some, None, Bool, true, false, ◌&&◌, ◌==◌, if◌then◌else◌, refl, sym, ap, ◌∙◌, subst, arith, true≢false}
+use Rattle.std.proofs.Common.{◌≡◌, ℕ, zero, suc, ◌+◌, List, [], ◌∷◌, ◌++◌, length, map, Ok, Err, Option, Some, None, Bool, true, false, ◌&&◌, ◌==◌, if◌then◌else◌, refl, sym, ap, ◌∙◌, subst}
 use Rattle.std.proofs.lemmas.Bool.Decides.{Decides-eqb}
 use Rattle.value_core.specs.Value.{Value, Assigns}
-use Rattle.ast_core.specs.Syntax.{Expr, Pattern, Attributes, no_attributes, written, valued, spread_of, Node, text_node, element, at_place, Place, put, attribute, spread, if_place, case_place, for_place, call, render_slot, live_call, stream_place, Nodes, no_nodes, node, Clauses, no_clauses, clause}
-use Rattle.ast_core.specs.Free.{free, free_place}
+use Rattle.ast_core.specs.Syntax.{Expr, Pattern, Attributes, no_attributes, written, valued, spread_of, Node, text_node, element, at_place, Place, put, attribute, spread, if_place, case_place, for_place, call, render_slot, live_call, stream_place, Nodes, no_nodes, node, Clauses, no_clauses, clause, module_of}
+use Rattle.ast_core.specs.Free.{free_names, free_place}
 use Rattle.doc_model.specs.Environment.{Stream, Component, Env, binding, bindings, bind, inside, reading, find}
-use Rattle.doc_model.specs.Evaluation.{Res, then_do, on_res, eval_expr, eval_pairs, printed, is_true}
+use Rattle.doc_model.specs.Evaluation.{Res, then_do, on_res, eval_expr, printed, is_true}
 use Rattle.doc_model.specs.Printing.{escape_text, print_attribute, print_spread}
 use Rattle.value_core.specs.declared.raise.Raise.TheVariants.{NoClause, NoAssign}
 use Rattle.diff_tree.specs.Tree.{count, all_fit}
@@ -13,12 +13,13 @@ use Rattle.doc_model.specs.Trace.{Items, item, Item, met_text, met_branch, met_r
 use Rattle.doc_model.specs.Whole.{whole_places, whole_rows}
 use Rattle.doc_model.specs.Holding.{Fresh, FreshItem, FreshRows, FreshSlots}
 use Rattle.doc_model.specs.Left.{Containers, Unused, UnusedNode, UnusedPlace, UnusedClauses, UnusedOthers, clause_at, Leaves, LeavesItem, Based}
-use Rattle.doc_model.specs.Scopes.{Site, Deeper, Captured, Chosen, later, chosen, with_entries, callee, component_scope, component_of, or_none, id_of, slot_scope, stream_of, stream_row, stream_scopes, operations, matched, insert_contents, row_scopes, items_of, slots_of}
+use Rattle.doc_model.specs.Scopes.{Site, Deeper, Captured, Chosen, later, chosen, callee, component_scope, component_of, or_none, id_of, slot_scope, stream_of, stream_row, stream_scopes, operations, matched, insert_contents, row_scopes, slots_of}
 use Rattle.ast_core.specs.Places.{cut, places_in, places_of, places_of_attributes}
 use Rattle.doc_model.specs.Tracing.{trace, trace_places, trace_place, trace_rows, trace_slot, trace_slots, trace_else}
 use Rattle.doc_model.proofs.Results.{On, on_made, on_bind, on_both, on_weaker, on_all}
 use Rattle.doc_model.proofs.Weave.{Fit, fit_nodes}
 use Rattle.doc_model.proofs.Wholes.{Good, GoodItem, GoodRows, GoodSlots, Still, StillItem, StillRows, StillSlots}
+use Rattle.doc_model.specs.Calls.{items_of, call_assigns, live_assigns, module_in}
 
 -- the containers that are all empty
 abbrev pub empty : Containers
@@ -32,8 +33,8 @@ module _ (f : Containers) (none : (s : List ℕ) → f s ≡ []) where
 
     unused_node : (n : Node) → UnusedNode f n
     unused_node (text_node t) = tt
-    unused_node (element t as' ns) = unused_all ns
-    unused_node (at_place p) = unused_place p
+    unused_node (element l t xs ns) = unused_all ns
+    unused_node (at_place o p) = unused_place p
 
     unused_place : (p : Place) → UnusedPlace f p
     unused_place (if_place t a b) = (unused_all a, unused_all b)
@@ -84,17 +85,18 @@ unused_append : (f : Containers) (ps qs : List Place) → UnusedAt f ps → Unus
 unused_append f [] qs h k = k
 unused_append f (p ∷ ps) qs h k = (h.0, unused_append f ps qs h.1 k)
 
-unused_attributes : (f : Containers) (as' : Attributes) → UnusedAt f (places_of_attributes as')
+unused_attributes : (f : Containers) (xs : Attributes) → UnusedAt f (places_of_attributes xs)
 unused_attributes f no_attributes = tt
-unused_attributes f (written t as') = unused_attributes f as'
-unused_attributes f (valued n e as') = (tt, unused_attributes f as')
-unused_attributes f (spread_of e as') = (tt, unused_attributes f as')
+unused_attributes f (written n w xs) = unused_attributes f xs
+unused_attributes f (valued n e xs) = (tt, unused_attributes f xs)
+unused_attributes f (spread_of e xs) = (tt, unused_attributes f xs)
+unused_attributes f (module_of m xs) = unused_attributes f xs
 
 mutual
   unused_of : (f : Containers) (n : Node) → UnusedNode f n → UnusedAt f (places_of n)
   unused_of f (text_node t) h = tt
-  unused_of f (element t as' ns) h = unused_append f (places_of_attributes as') (places_in ns) (unused_attributes f as') (unused_in f ns h)
-  unused_of f (at_place p) h = (h, tt)
+  unused_of f (element l t xs ns) h = unused_append f (places_of_attributes xs) (places_in ns) (unused_attributes f xs) (unused_in f ns h)
+  unused_of f (at_place o p) h = (h, tt)
 
   pub unused_in : (f : Containers) (ns : Nodes) → Unused f ns → UnusedAt f (places_in ns)
   unused_in f no_nodes h = tt
@@ -163,20 +165,20 @@ module _ (site : Site) (go : Deeper Items) (fresh : Freshens go) where
         (on_weaker FreshRows _ _ (λ rs k u. (b s ∙ u, k)) (fresh_rows (stream_row env) body (insert_contents (matched x p (g s).waiting.inserts)) (λ y. refl)))
 
     fresh_place : (p : Place) → On (Here p) (trace_place site go env p)
-    fresh_place (put e) = on_made (Here (put e)) (λ t. met_text (reading env (free e)) (escape_text t)) (then_do (eval_expr env e) printed) (on_all _ (then_do (eval_expr env e) printed) (λ t u. tt))
-    fresh_place (attribute n e) = on_made (Here (attribute n e)) (met_text (reading env (free e))) (then_do (eval_expr env e) (print_attribute n)) (on_all _ (then_do (eval_expr env e) (print_attribute n)) (λ t u. tt))
-    fresh_place (spread e) = on_made (Here (spread e)) (met_text (reading env (free e))) (then_do (eval_expr env e) print_spread) (on_all _ (then_do (eval_expr env e) print_spread) (λ t u. tt))
+    fresh_place (put e) = on_made (Here (put e)) (λ t. met_text (reading env (free_names e)) (escape_text t)) (then_do (eval_expr env e) printed) (on_all _ (then_do (eval_expr env e) printed) (λ t u. tt))
+    fresh_place (attribute n e) = on_made (Here (attribute n e)) (met_text (reading env (free_names e))) (then_do (eval_expr env e) (print_attribute n)) (on_all _ (then_do (eval_expr env e) (print_attribute n)) (λ t u. tt))
+    fresh_place (spread e) = on_made (Here (spread e)) (met_text (reading env (free_names e))) (then_do (eval_expr env e) print_spread) (on_all _ (then_do (eval_expr env e) print_spread) (λ t u. tt))
     fresh_place (if_place t a b) = on_bind (Here (if_place t a b)) (eval_expr env t) _ (λ v. fresh_choice t a b (is_true v))
     fresh_place (case_place e cs) = on_bind (Here (case_place e cs)) (eval_expr env e) _ (λ v. fresh_clause e cs (chosen v cs) (chosen_at v cs))
     fresh_place (for_place p e body) =
         anyway (for_place p e body) _ (on_made FreshItem (met_rows (reading env (free_place (for_place p e body))) (cut body)) _
         (on_bind FreshRows (then_do (eval_expr env e) items_of) _ (λ vs. fresh_rows (λ as'. inside as' env) body (bindings p vs) (λ y. refl))))
-    fresh_place (call t ps es) =
-        anyway (call t ps es) _ (on_made FreshItem (met_call (cut (site.template t))) _ (on_bind Fresh (eval_pairs env ps) _ (λ as'. fresh_none (callee env (with_entries env es as')) (site.template t) refl)))
+    fresh_place (call t xs content es) =
+        anyway (call t xs content es) _ (on_made FreshItem (met_call (cut (site.template t))) _ (on_bind Fresh (call_assigns env xs content es) _ (λ as'. fresh_none (callee env as') (site.template t) refl)))
     fresh_place (render_slot e a) =
-        anyway (render_slot e a) _ (on_made FreshItem met_slots _ (on_bind FreshSlots (then_do (eval_expr env e) slots_of) _ (λ cs. on_bind FreshSlots (eval_expr env a) _ (λ v. fresh_slots env v cs))))
-    fresh_place (live_call m ps) =
-        anyway (live_call m ps) _ (on_bind FreshItem (then_do (eval_pairs env ps) (component_of env m)) _ (λ c. on_made FreshItem (met_component c.number (cut (site.root m))) _ (on_all _ (go (component_scope env c) (site.root m)) (λ t. tt))))
+        anyway (render_slot e a) _ (on_made FreshItem met_slots _ (on_bind FreshSlots (then_do (eval_expr env e) (slots_of site)) _ (λ cs. on_bind FreshSlots (eval_expr env a) _ (λ v. fresh_slots env v cs))))
+    fresh_place (live_call xs content es) =
+        anyway (live_call xs content es) _ (on_bind FreshItem (then_do (live_assigns env xs) (component_of env (module_in xs))) _ (λ c. on_made FreshItem (met_component c.number (cut (site.root (module_in xs)))) _ (on_all _ (go (component_scope env c) (site.root (module_in xs))) (λ t. tt))))
     fresh_place (stream_place s x p body) = fresh_stream s x p body env.streams based
 
     pub fresh_places : (ps : List Place) → On (λ is. UnusedAt f ps → Fresh is) (trace_places site go env ps)
@@ -224,19 +226,19 @@ module _ (site : Site) (go : Deeper Items) (still : Stills go) where
     still_choice a (node n ns) false = still_branch 1 (node n ns) env none
 
     still_place : (p : Place) → On StillItem (trace_place site go env p)
-    still_place (put e) = on_made StillItem (λ t. met_text (reading env (free e)) (escape_text t)) (then_do (eval_expr env e) printed) (on_all _ (then_do (eval_expr env e) printed) (λ t. tt))
-    still_place (attribute n e) = on_made StillItem (met_text (reading env (free e))) (then_do (eval_expr env e) (print_attribute n)) (on_all _ (then_do (eval_expr env e) (print_attribute n)) (λ t. tt))
-    still_place (spread e) = on_made StillItem (met_text (reading env (free e))) (then_do (eval_expr env e) print_spread) (on_all _ (then_do (eval_expr env e) print_spread) (λ t. tt))
+    still_place (put e) = on_made StillItem (λ t. met_text (reading env (free_names e)) (escape_text t)) (then_do (eval_expr env e) printed) (on_all _ (then_do (eval_expr env e) printed) (λ t. tt))
+    still_place (attribute n e) = on_made StillItem (met_text (reading env (free_names e))) (then_do (eval_expr env e) (print_attribute n)) (on_all _ (then_do (eval_expr env e) (print_attribute n)) (λ t. tt))
+    still_place (spread e) = on_made StillItem (met_text (reading env (free_names e))) (then_do (eval_expr env e) print_spread) (on_all _ (then_do (eval_expr env e) print_spread) (λ t. tt))
     still_place (if_place t a b) = on_bind StillItem (eval_expr env t) _ (λ v. still_choice a b (is_true v))
     still_place (case_place e cs) = on_bind StillItem (eval_expr env e) _ (λ v. on_bind StillItem (chosen v cs) _ (λ c. still_branch c.index c.nodes (bind c.variables env) none))
     still_place (for_place p e body) =
         on_made StillItem (met_rows (reading env (free_place (for_place p e body))) (cut body)) _ (on_bind StillRows (then_do (eval_expr env e) items_of) _ (λ vs. still_rows (λ as'. inside as' env) body (bindings p vs) (λ y. none)))
-    still_place (call t ps es) = on_made StillItem (met_call (cut (site.template t))) _ (on_bind Still (eval_pairs env ps) _ (λ as'. still (callee env (with_entries env es as')) (site.template t) none))
-    still_place (render_slot e a) = on_made StillItem met_slots _ (on_bind StillSlots (then_do (eval_expr env e) slots_of) _ (λ cs. on_bind StillSlots (eval_expr env a) _ (λ v. still_slots v cs)))
-    still_place (live_call m ps) = by_pairs (eval_pairs env ps)
+    still_place (call t xs content es) = on_made StillItem (met_call (cut (site.template t))) _ (on_bind Still (call_assigns env xs content es) _ (λ as'. still (callee env as') (site.template t) none))
+    still_place (render_slot e a) = on_made StillItem met_slots _ (on_bind StillSlots (then_do (eval_expr env e) (slots_of site)) _ (λ cs. on_bind StillSlots (eval_expr env a) _ (λ v. still_slots v cs)))
+    still_place (live_call xs content es) = by_pairs (live_assigns env xs)
       where
-        by_pairs : (r : Res Assigns) → On StillItem (then_do (then_do r (component_of env m)) (λ c. on_res (met_component c.number (cut (site.root m))) (go (component_scope env c) (site.root m))))
-        by_pairs (Ok as') = none_found StillItem env.components m (id_of as') (λ c. on_res (met_component c.number (cut (site.root m))) (go (component_scope env c) (site.root m))) none
+        by_pairs : (r : Res Assigns) → On StillItem (then_do (then_do r (component_of env (module_in xs))) (λ c. on_res (met_component c.number (cut (site.root (module_in xs)))) (go (component_scope env c) (site.root (module_in xs)))))
+        by_pairs (Ok as') = none_found StillItem env.components (module_in xs) (id_of as') (λ c. on_res (met_component c.number (cut (site.root (module_in xs)))) (go (component_scope env c) (site.root (module_in xs)))) none
         by_pairs (Err k) = tt
     still_place (stream_place s x p body) =
         on_bind StillItem (stream_of env s) _ (λ st. on_made StillItem (met_stream s st.shown (operations x p st) (cut body)) (trace_rows go body (stream_scopes env x p st)) (still_rows (stream_row env) body (insert_contents (matched x p st.waiting.inserts)) (λ y. refl)))
@@ -313,18 +315,18 @@ module _ (site : Site) (go : Deeper Items) (fresh : Freshens go) (still : Stills
   three P Q R (Err e) h k l = tt
 
   good_place : (p : Place) (env : Env) → On GoodItem (trace_place site go env p)
-  good_place (put e) env = on_made GoodItem (λ t. met_text (reading env (free e)) (escape_text t)) (then_do (eval_expr env e) printed) (on_all _ (then_do (eval_expr env e) printed) (λ t. tt))
-  good_place (attribute n e) env = on_made GoodItem (met_text (reading env (free e))) (then_do (eval_expr env e) (print_attribute n)) (on_all _ (then_do (eval_expr env e) (print_attribute n)) (λ t. tt))
-  good_place (spread e) env = on_made GoodItem (met_text (reading env (free e))) (then_do (eval_expr env e) print_spread) (on_all _ (then_do (eval_expr env e) print_spread) (λ t. tt))
+  good_place (put e) env = on_made GoodItem (λ t. met_text (reading env (free_names e)) (escape_text t)) (then_do (eval_expr env e) printed) (on_all _ (then_do (eval_expr env e) printed) (λ t. tt))
+  good_place (attribute n e) env = on_made GoodItem (met_text (reading env (free_names e))) (then_do (eval_expr env e) (print_attribute n)) (on_all _ (then_do (eval_expr env e) (print_attribute n)) (λ t. tt))
+  good_place (spread e) env = on_made GoodItem (met_text (reading env (free_names e))) (then_do (eval_expr env e) print_spread) (on_all _ (then_do (eval_expr env e) print_spread) (λ t. tt))
   good_place (if_place t a b) env = on_bind GoodItem (eval_expr env t) _ (λ v. good_choice env a b (is_true v))
   good_place (case_place e cs) env = on_bind GoodItem (eval_expr env e) _ (λ v. on_bind GoodItem (chosen v cs) _ (λ c. good_branch c.index c.nodes (bind c.variables env)))
   good_place (for_place p e body) env =
       on_made GoodItem (met_rows (reading env (free_place (for_place p e body))) (cut body)) _
       (on_bind (λ rs. FitRows body rs × FreshRows rs × GoodRows rs) (then_do (eval_expr env e) items_of) _
       (λ vs. three (FitRows body) FreshRows GoodRows (trace_rows go body (row_scopes env p vs)) (fit_rows body (row_scopes env p vs)) (fresh_rows site go fresh (λ as'. inside as' env) body (bindings p vs) (λ y. refl)) (good_rows body (row_scopes env p vs))))
-  good_place (call t ps es) env = on_made GoodItem (met_call (cut (site.template t))) _ (on_bind Good (eval_pairs env ps) _ (λ as'. good (callee env (with_entries env es as')) (site.template t)))
-  good_place (render_slot e a) env = on_made GoodItem met_slots _ (on_bind GoodSlots (then_do (eval_expr env e) slots_of) _ (λ cs. on_bind GoodSlots (eval_expr env a) _ (λ v. good_slots env v cs)))
-  good_place (live_call m ps) env = on_bind GoodItem (then_do (eval_pairs env ps) (component_of env m)) _ (λ c. on_made GoodItem (met_component c.number (cut (site.root m))) _ (on_all _ (go (component_scope env c) (site.root m)) (λ t. tt)))
+  good_place (call t xs content es) env = on_made GoodItem (met_call (cut (site.template t))) _ (on_bind Good (call_assigns env xs content es) _ (λ as'. good (callee env as') (site.template t)))
+  good_place (render_slot e a) env = on_made GoodItem met_slots _ (on_bind GoodSlots (then_do (eval_expr env e) (slots_of site)) _ (λ cs. on_bind GoodSlots (eval_expr env a) _ (λ v. good_slots env v cs)))
+  good_place (live_call xs content es) env = on_bind GoodItem (then_do (live_assigns env xs) (component_of env (module_in xs))) _ (λ c. on_made GoodItem (met_component c.number (cut (site.root (module_in xs)))) _ (on_all _ (go (component_scope env c) (site.root (module_in xs))) (λ t. tt)))
   good_place (stream_place s x p body) env =
       on_bind GoodItem (stream_of env s) _ (λ st. on_made GoodItem (met_stream s st.shown (operations x p st) (cut body)) (trace_rows go body (stream_scopes env x p st))
       (three (FitRows body) FreshRows StillRows (trace_rows go body (stream_scopes env x p st)) (fit_rows body (stream_scopes env x p st))
@@ -364,9 +366,9 @@ module _ (site : Site) (go : Deeper Items) (leaves : LeavesNone site go) (env : 
   leaves_place (attribute n e) = on_all _ (trace_place site go env (attribute n e)) (λ i. tt)
   leaves_place (spread e) = on_all _ (trace_place site go env (spread e)) (λ i. tt)
   leaves_place (for_place p e body) = on_all _ (trace_place site go env (for_place p e body)) (λ i. tt)
-  leaves_place (call t ps es) = on_all _ (trace_place site go env (call t ps es)) (λ i. tt)
+  leaves_place (call t xs content es) = on_all _ (trace_place site go env (call t xs content es)) (λ i. tt)
   leaves_place (render_slot e a) = on_all _ (trace_place site go env (render_slot e a)) (λ i. tt)
-  leaves_place (live_call m ps) = on_all _ (trace_place site go env (live_call m ps)) (λ i. tt)
+  leaves_place (live_call xs content es) = on_all _ (trace_place site go env (live_call xs content es)) (λ i. tt)
 
   leaves_places : (ps : List Place) → On (Leaves site.mark empty ps) (trace_places site go env ps)
   leaves_places [] = tt

@@ -1,11 +1,11 @@
 -- L2 for one node: two renderings of the same nodes are kept, so the lean diff merges.
-use Rattle.std.proofs.Common.{◌≡◌, ℕ, zero, suc, ◌+◌, List, [], ◌∷◌, ◌++◌, length, map, Result, Ok, Err, Option, Some, None, Bool, true, false, ◌&&◌, ◌==◌, if◌then◌else◌, refl, sym, ap, ◌∙◌, subst, arith, true≢false}
+use Rattle.std.proofs.Common.{◌≡◌, ℕ, zero, suc, ◌+◌, List, [], ◌∷◌, ◌++◌, Ok, Err, Option, Some, None, Bool, true, false, ◌&&◌, ◌==◌, if◌then◌else◌, refl, sym, ap, ◌∙◌, subst, arith, true≢false}
 use Rattle.std.proofs.lemmas.Bool.Decides.{Decides-eqb}
 use Rattle.value_core.specs.Value.{Value, Assigns}
 use Rattle.ast_core.specs.Syntax.{Expr, Pattern, Place, put, attribute, spread, if_place, case_place, for_place, call, render_slot, live_call, stream_place, Nodes, no_nodes, node, Clauses}
-use Rattle.ast_core.specs.Free.{free, free_place}
+use Rattle.ast_core.specs.Free.{free_names, free_place}
 use Rattle.doc_model.specs.Environment.{Stream, Env, binding, bind, reading}
-use Rattle.doc_model.specs.Evaluation.{Res, then_do, on_res, eval_expr, eval_pairs, printed, is_true}
+use Rattle.doc_model.specs.Evaluation.{Res, then_do, on_res, eval_expr, printed, is_true}
 use Rattle.doc_model.specs.Printing.{escape_text, print_attribute, print_spread}
 use Rattle.value_core.specs.declared.raise.Raise.TheVariants.{NoClause, NoAssign}
 use Rattle.diff_tree.specs.Tree.{Trees, merge_changes}
@@ -14,15 +14,17 @@ use Rattle.doc_model.specs.Whole.{whole_rows}
 use Rattle.doc_model.specs.Lean.{lean_places}
 use Rattle.doc_model.specs.Holding.{Holds, Fresh, FreshSlots}
 use Rattle.doc_model.specs.Left.{Containers, Unused, clause_at, Leaves, LeavesItem, Based, SameNumbers}
-use Rattle.doc_model.specs.Scopes.{Site, Deeper, Captured, Chosen, chosen, with_entries, callee, component_scope, component_of, slot_scope, stream_scopes, operations, row_scopes, items_of, slots_of}
+use Rattle.doc_model.specs.Scopes.{Site, Deeper, Captured, Chosen, chosen, callee, component_scope, component_of, slot_scope, stream_scopes, operations, row_scopes, slots_of}
 use Rattle.ast_core.specs.Places.{cut, places_in}
 use Rattle.doc_model.specs.Tracing.{trace, trace_places, trace_place, trace_rows, trace_slot, trace_slots, trace_else}
-use Rattle.doc_model.proofs.Results.{On, on_made, on_bind, on_both, on_weaker, on_all, Pair, pair_err, pair_made, pair_bind, pair_both, pair_weaker, pair_with}
+use Rattle.doc_model.proofs.Results.{On, on_all, Pair, pair_err, pair_made, pair_bind, pair_both, pair_weaker, pair_with}
 use Rattle.doc_model.specs.Laws.{Gives}
 use Rattle.doc_model.proofs.Merges.{Kept, KeptItem, KeptSlots, lean_merges}
-use Rattle.doc_model.proofs.Agrees.{Agree, Agrees, agree_from, eval_agrees, for_agrees, trace_agrees}
-use Rattle.doc_model.proofs.Facts.{empty, unused_empty, unused_at, unused_other, chosen_at, Freshens, fresh_slots, trace_fresh, LeavesNone, trace_leaves_none, trace_good}
+use Rattle.doc_model.proofs.Names.{agree_from, eval_agrees}
+use Rattle.doc_model.proofs.Agrees.{Agrees, for_agrees, trace_agrees}
+use Rattle.doc_model.proofs.Facts.{empty, unused_other, chosen_at, Freshens, fresh_slots, trace_fresh, LeavesNone, trace_leaves_none, trace_good}
 use Rattle.doc_model.proofs.Wholes.{Good}
+use Rattle.doc_model.specs.Calls.{items_of, call_assigns, live_assigns, module_in}
 
 -- two renderings of the same nodes one level deeper, where the old one left the new one's containers
 abbrev pub Keeps : Site → Deeper Items → Deeper Items → Type 0
@@ -171,9 +173,9 @@ module _ (site : Site) (go to : Deeper Items) (agrees : Agrees go to) (keeps : K
       (pair_all _ (trace_rows go body (stream_scopes a x p (g s))) (trace_rows to body (stream_scopes b x p (h s))) (λ y y' l. (refl, refl, base s ∙ l)))
 
   place_kept : (f : Containers) (p : Place) (a b : Env) → SameNumbers a.components b.components → Based f b.streams → Pair (K f p) (trace_place site go a p) (trace_place site to b p)
-  place_kept f (put e) a b n base = put_kept f (put e) _ _ _ _ (λ h. ap (λ r. then_do r printed) (eval_agrees e a b (agree_from a b (free e) h)))
-  place_kept f (attribute m e) a b n base = text_kept f (attribute m e) _ _ _ _ (λ h. ap (λ r. then_do r (print_attribute m)) (eval_agrees e a b (agree_from a b (free e) h)))
-  place_kept f (spread e) a b n base = text_kept f (spread e) _ _ _ _ (λ h. ap (λ r. then_do r print_spread) (eval_agrees e a b (agree_from a b (free e) h)))
+  place_kept f (put e) a b n base = put_kept f (put e) _ _ _ _ (λ h. ap (λ r. then_do r printed) (eval_agrees e a b (agree_from a b (free_names e) h)))
+  place_kept f (attribute m e) a b n base = text_kept f (attribute m e) _ _ _ _ (λ h. ap (λ r. then_do r (print_attribute m)) (eval_agrees e a b (agree_from a b (free_names e) h)))
+  place_kept f (spread e) a b n base = text_kept f (spread e) _ _ _ _ (λ h. ap (λ r. then_do r print_spread) (eval_agrees e a b (agree_from a b (free_names e) h)))
   place_kept f (if_place t x y) a b n base = pair_bind (K f (if_place t x y)) (eval_expr a t) (eval_expr b t) _ _ (λ v w. choice_kept f t x y a b (is_true v) (is_true w) n base)
   place_kept f (case_place e cs) a b n base = pair_bind (K f (case_place e cs)) (eval_expr a e) (eval_expr b e) _ _ (λ v w. clauses_kept f e cs a b (chosen v cs) (chosen w cs) n base (chosen_at v cs) (chosen_at w cs))
   place_kept f (for_place p e body) a b n base =
@@ -183,20 +185,20 @@ module _ (site : Site) (go to : Deeper Items) (agrees : Agrees go to) (keeps : K
       pair_made (K f q) (met_rows (reading a (free_place q)) (cut body)) (met_rows (reading b (free_place q)) (cut body)) r s
       (pair_weaker (λ x y. reading a (free_place q) ≡ reading b (free_place q) → whole_rows x ≡ whole_rows y) _ r s (λ x y h l. (refl, h))
       (pair_given (reading a (free_place q) ≡ reading b (free_place q)) (λ x y. whole_rows x ≡ whole_rows y) r s (λ h. for_agrees site go to agrees p e body a b (agree_from a b (free_place q) h) n)))
-  place_kept f (call t ps es) a b n base =
-      pair_made (K f (call t ps es)) (met_call (cut (site.template t))) (met_call (cut (site.template t))) _ _
-      (pair_bind _ (eval_pairs a ps) (eval_pairs b ps) _ _
-      (λ as' bs. pair_weaker (Kept site.mark) _ (go (callee a (with_entries a es as')) (site.template t)) (to (callee b (with_entries b es bs)) (site.template t)) (λ x y k l. (refl, k))
-      (none_kept (callee a (with_entries a es as')) (callee b (with_entries b es bs)) (site.template t) n refl tt)))
+  place_kept f (call t xs content es) a b n base =
+      pair_made (K f (call t xs content es)) (met_call (cut (site.template t))) (met_call (cut (site.template t))) _ _
+      (pair_bind _ (call_assigns a xs content es) (call_assigns b xs content es) _ _
+      (λ as' bs. pair_weaker (Kept site.mark) _ (go (callee a as') (site.template t)) (to (callee b bs) (site.template t)) (λ x y k l. (refl, k))
+      (none_kept (callee a as') (callee b bs) (site.template t) n refl tt)))
   place_kept f (render_slot e x) a b n base =
       pair_made (K f (render_slot e x)) met_slots met_slots _ _
-      (pair_bind _ (then_do (eval_expr a e) slots_of) (then_do (eval_expr b e) slots_of) _ _
+      (pair_bind _ (then_do (eval_expr a e) (slots_of site)) (then_do (eval_expr b e) (slots_of site)) _ _
       (λ cs ds. pair_bind _ (eval_expr a x) (eval_expr b x) _ _
       (λ v w. pair_right FreshSlots (KeptSlots site.mark) _ (trace_slots site go a v cs) (trace_slots site to b w ds) (λ y y' h k l. (k, h)) (fresh_slots site to fresh b w ds) (slots_kept a b v w cs ds n))))
-  place_kept f (live_call m ps) a b n base =
-      pair_bind (K f (live_call m ps)) (then_do (eval_pairs a ps) (component_of a m)) (then_do (eval_pairs b ps) (component_of b m)) _ _
-      (λ c d. pair_made (K f (live_call m ps)) (met_component c.number (cut (site.root m))) (met_component d.number (cut (site.root m))) (go (component_scope a c) (site.root m)) (to (component_scope b d) (site.root m))
-      (pair_all _ (go (component_scope a c) (site.root m)) (to (component_scope b d) (site.root m)) (λ x y l. tt)))
+  place_kept f (live_call xs content es) a b n base =
+      pair_bind (K f (live_call xs content es)) (then_do (live_assigns a xs) (component_of a (module_in xs))) (then_do (live_assigns b xs) (component_of b (module_in xs))) _ _
+      (λ c d. pair_made (K f (live_call xs content es)) (met_component c.number (cut (site.root (module_in xs)))) (met_component d.number (cut (site.root (module_in xs)))) (go (component_scope a c) (site.root (module_in xs))) (to (component_scope b d) (site.root (module_in xs)))
+      (pair_all _ (go (component_scope a c) (site.root (module_in xs))) (to (component_scope b d) (site.root (module_in xs))) (λ x y l. tt)))
   place_kept f (stream_place s x p body) a b n base = stream_kept f s x p body a b a.streams b.streams base
 
   places_kept : (f : Containers) (ps : List Place) (a b : Env) → SameNumbers a.components b.components → Based f b.streams

@@ -1,5 +1,5 @@
 -- The lean diff, merged into a tree that is whole for a client, gives one that is whole for the new state.
-use Rattle.std.proofs.Common.{◌≡◌, ℕ, zero, suc, ◌+◌, List, [], ◌∷◌, ◌++◌, length, map, Option, Some, None, option_map, Bool, true, false, ◌&&◌, ◌==◌, if◌then◌else◌, refl, sym, ap, ◌∙◌, subst, arith, true≢false}
+use Rattle.std.proofs.Common.{◌≡◌, ℕ, suc, ◌+◌, List, [], ◌∷◌, ◌++◌, length, map, Option, Some, None, option_map, Bool, true, false, ◌&&◌, ◌==◌, if◌then◌else◌, refl, sym, ap, ◌∙◌, subst, arith, true≢false}
 use Rattle.std.specs.Str.{bytes_eq}
 use Rattle.std.proofs.lemmas.Bool.Decides.{Decides-eqb}
 use Rattle.std.proofs.lemmas.Slice.Eq.{bytes_eq-Decides}
@@ -11,8 +11,8 @@ use Rattle.doc_model.specs.Whole.{whole_places, whole_place, whole_rows, whole_s
 use Rattle.doc_model.specs.Lean.{lean_places, lean_place, lean_slots, is_empty, unless_empty, option_change, rows_change, slot_count}
 use Rattle.doc_model.specs.Holding.{HoldsStream, Holds, HoldsItem, HoldsSlots, Fresh, FreshItem, FreshRows, FreshSlots}
 use Rattle.doc_model.specs.Laws.{Gives}
-use Rattle.doc_model.proofs.Sames.{both_true, reading_sound}
-use Rattle.doc_model.proofs.Wholes.{Good, GoodItem, GoodSlots, Still, StillRows, still_rows, whole_rows_show, rows-opened, rows-map, after-map, held_list_of}
+use Rattle.doc_model.proofs.Sames.{reading_sound}
+use Rattle.doc_model.proofs.Wholes.{Good, GoodItem, GoodSlots, StillRows, still_rows, whole_rows_show, rows-opened, rows-map, after-map, held_list_of}
 
 -- a change that may be none
 abbrev pub merge_option : Tree → Option Change → Option Tree

@@ -1,11 +1,11 @@
 -- The containers that a rendering leaves.
-use Rattle.std.proofs.Common.{◌≡◌, ◌⊎◌, inl, inr, ℕ, zero, suc, List, [], ◌∷◌, ◌++◌, map, Result, Ok, Err, Option, Some, None, Bool, true, false, if◌then◌else◌, refl, sym, ap, ◌∙◌, subst, append_assoc, append-nil, true≢false}
+use Rattle.std.proofs.Common.{◌≡◌, ◌⊎◌, ℕ, zero, suc, List, [], ◌∷◌, ◌++◌, Ok, Err, Option, Some, None, Bool, true, false, if◌then◌else◌, refl, sym, ap, ◌∙◌, subst, append_assoc, append-nil, true≢false}
 use Rattle.std.specs.Str.{bytes_eq}
 use Rattle.std.proofs.lemmas.Slice.Eq.{bytes_eq-Decides}
-use Rattle.ast_core.specs.Syntax.{Expr, Attributes, no_attributes, written, valued, spread_of, Node, text_node, element, at_place, Place, put, attribute, spread, if_place, case_place, for_place, call, render_slot, live_call, stream_place, Nodes, no_nodes, node, Clauses, no_clauses, clause}
-use Rattle.ast_core.specs.Free.{one_of, free, free_place}
+use Rattle.ast_core.specs.Syntax.{Expr, Attributes, no_attributes, written, valued, spread_of, Node, text_node, element, at_place, Place, put, attribute, spread, if_place, case_place, for_place, call, render_slot, live_call, stream_place, Nodes, no_nodes, node, Clauses, no_clauses, clause, module_of}
+use Rattle.ast_core.specs.Free.{one_of, free_names, free_place}
 use Rattle.doc_model.specs.Environment.{Component, Env, bind, reading}
-use Rattle.doc_model.specs.Evaluation.{Res, then_do, on_res, eval_expr, eval_pairs, printed, is_true}
+use Rattle.doc_model.specs.Evaluation.{Res, then_do, on_res, eval_expr, printed, is_true}
 use Rattle.doc_model.specs.Printing.{escape_text, print_attribute, print_spread}
 use Rattle.diff_tree.specs.Container.{Row, after}
 use Rattle.doc_model.specs.Trace.{Items, item, Item, met_text, met_branch, met_rows, met_call, met_slots, met_component, met_stream, row_texts}
@@ -16,11 +16,12 @@ use Rattle.doc_model.specs.Once.{or_else, or_empty, left_in, left_item, left, le
 use Rattle.doc_model.specs.Table.{IsTable, LeftBehind}
 use Rattle.doc_model.specs.Scopes.{Site, Deeper, Chosen, chosen, component_scope, component_of, stream_of, stream_scopes, operations}
 use Rattle.doc_model.specs.Tracing.{trace, trace_places, trace_place, trace_rows, trace_else}
-use Rattle.doc_model.proofs.Results.{On, on_made, on_bind, on_both, on_weaker, on_all}
+use Rattle.doc_model.proofs.Results.{On, on_made, on_bind, on_both, on_weaker}
 use Rattle.doc_model.proofs.Facts.{chosen_at}
 use Rattle.doc_model.proofs.Origins.{Origin, scope_of, all_both}
 use Rattle.doc_model.proofs.Pages.{origins, all_found}
 use Rattle.doc_model.proofs.Tables.{one_number}
+use Rattle.doc_model.specs.Calls.{live_assigns, module_in}
 
 in_left : (s : List ℕ) (xs ys : List (List ℕ)) → one_of s xs ≡ true → one_of s (xs ++ ys) ≡ true
 in_left s [] ys h = absurd (true≢false (sym h))
@@ -75,8 +76,8 @@ mutual
 
   unused_of_node : (f : Containers) (n : Node) → ((s : List ℕ) → one_of s (streams_of n) ≡ true → f s ≡ []) → UnusedNode f n
   unused_of_node f (text_node t) h = tt
-  unused_of_node f (element t as' ns) h = unused_names f ns h
-  unused_of_node f (at_place p) h = unused_of_place f p h
+  unused_of_node f (element l t xs ns) h = unused_names f ns h
+  unused_of_node f (at_place o p) h = unused_of_place f p h
 
   unused_of_place : (f : Containers) (p : Place) → ((s : List ℕ) → one_of s (streams_at p) ≡ true → f s ≡ []) → UnusedPlace f p
   unused_of_place f (if_place t a b) h = (unused_names f a (λ s k. h s (in_left s (streams_in a) (streams_in b) k)), unused_names f b (λ s k. h s (in_right s (streams_in a) (streams_in b) k)))
@@ -118,17 +119,18 @@ along-append : (ps qs : List Place) → streams_along (ps ++ qs) ≡ streams_alo
 along-append [] qs = refl
 along-append (p ∷ ps) qs = ap (λ x. streams_at p ++ x) (along-append ps qs) ∙ sym (append_assoc (streams_at p) (streams_along ps) (streams_along qs))
 
-along-attributes : (as' : Attributes) → streams_along (places_of_attributes as') ≡ []
+along-attributes : (xs : Attributes) → streams_along (places_of_attributes xs) ≡ []
 along-attributes no_attributes = refl
-along-attributes (written t as') = along-attributes as'
-along-attributes (valued n e as') = along-attributes as'
-along-attributes (spread_of e as') = along-attributes as'
+along-attributes (written n w xs) = along-attributes xs
+along-attributes (valued n e xs) = along-attributes xs
+along-attributes (spread_of e xs) = along-attributes xs
+along-attributes (module_of m xs) = along-attributes xs
 
 mutual
   along-node : (n : Node) → streams_along (places_of n) ≡ streams_of n
   along-node (text_node t) = refl
-  along-node (element t as' ns) = along-append (places_of_attributes as') (places_in ns) ∙ ap (λ x. x ++ streams_along (places_in ns)) (along-attributes as') ∙ along-in ns
-  along-node (at_place p) = append-nil (streams_at p)
+  along-node (element l t xs ns) = along-append (places_of_attributes xs) (places_in ns) ∙ ap (λ x. x ++ streams_along (places_in ns)) (along-attributes xs) ∙ along-in ns
+  along-node (at_place o p) = append-nil (streams_at p)
 
   along-in : (ns : Nodes) → streams_along (places_in ns) ≡ streams_in ns
   along-in no_nodes = refl
@@ -205,16 +207,16 @@ module _ (site : Site) where
     one_name s x c false e k = refl
 
     place_tells : (p : Place) (env : Env) → On (TellsItem p) (trace_place site go env p)
-    place_tells (put e) env = plain_tells (put e) (λ t. met_text (reading env (free e)) (escape_text t)) (then_do (eval_expr env e) printed) (λ t. (λ s k. refl, λ o f k. tt))
-    place_tells (attribute n e) env = plain_tells (attribute n e) (met_text (reading env (free e))) (then_do (eval_expr env e) (print_attribute n)) (λ t. (λ s k. refl, λ o f k. tt))
-    place_tells (spread e) env = plain_tells (spread e) (met_text (reading env (free e))) (then_do (eval_expr env e) print_spread) (λ t. (λ s k. refl, λ o f k. tt))
+    place_tells (put e) env = plain_tells (put e) (λ t. met_text (reading env (free_names e)) (escape_text t)) (then_do (eval_expr env e) printed) (λ t. (λ s k. refl, λ o f k. tt))
+    place_tells (attribute n e) env = plain_tells (attribute n e) (met_text (reading env (free_names e))) (then_do (eval_expr env e) (print_attribute n)) (λ t. (λ s k. refl, λ o f k. tt))
+    place_tells (spread e) env = plain_tells (spread e) (met_text (reading env (free_names e))) (then_do (eval_expr env e) print_spread) (λ t. (λ s k. refl, λ o f k. tt))
     place_tells (if_place t a b) env = on_bind (TellsItem (if_place t a b)) (eval_expr env t) _ (λ v. choice_tells t a b env (is_true v))
     place_tells (case_place e cs) env = on_bind (TellsItem (case_place e cs)) (eval_expr env e) _ (λ v. clause_tells e cs env (chosen v cs) (chosen_at v cs))
     place_tells (for_place p e body) env = plain_tells (for_place p e body) (met_rows (reading env (free_place (for_place p e body))) (cut body)) _ (λ t. (λ s k. refl, λ o f k. tt))
-    place_tells (call t ps es) env = plain_tells (call t ps es) (met_call (cut (site.template t))) _ (λ t. (λ s k. refl, λ o f k. tt))
+    place_tells (call t xs content es) env = plain_tells (call t xs content es) (met_call (cut (site.template t))) _ (λ t. (λ s k. refl, λ o f k. tt))
     place_tells (render_slot e a) env = plain_tells (render_slot e a) met_slots _ (λ t. (λ s k. refl, λ o f k. tt))
-    place_tells (live_call m ps) env =
-        on_bind (TellsItem (live_call m ps)) (then_do (eval_pairs env ps) (component_of env m)) _ (λ c. plain_tells (live_call m ps) (met_component c.number (cut (site.root m))) (go (component_scope env c) (site.root m)) (λ t. (λ s k. refl, λ o f k. tt)))
+    place_tells (live_call xs content es) env =
+        on_bind (TellsItem (live_call xs content es)) (then_do (live_assigns env xs) (component_of env (module_in xs))) _ (λ c. plain_tells (live_call xs content es) (met_component c.number (cut (site.root (module_in xs)))) (go (component_scope env c) (site.root (module_in xs))) (λ t. (λ s k. refl, λ o f k. tt)))
     place_tells (stream_place x y p body) env =
         on_bind (TellsItem (stream_place x y p body)) (stream_of env x) _
         (λ st. plain_tells (stream_place x y p body) (met_stream x st.shown (operations y p st) (cut body)) (trace_rows go body (stream_scopes env y p st))

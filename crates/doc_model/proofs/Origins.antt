@@ -1,21 +1,22 @@
 -- Where the components of a page come from: each is the rendering of a living component's template under its assigns.
-use Rattle.std.proofs.Common.{◌≡◌, ◌⊎◌, inl, inr, ℕ, zero, suc, List, [], ◌∷◌, ◌++◌, map, Result, Ok, Err, Option, Some, None, Bool, true, false, ◌&&◌, if◌then◌else◌, refl, sym, ap, ◌∙◌, subst}
+use Rattle.std.proofs.Common.{◌≡◌, ◌⊎◌, inl, inr, ℕ, zero, suc, List, [], ◌∷◌, ◌++◌, map, Ok, Err, Option, Some, None, Bool, true, false, ◌&&◌, if◌then◌else◌, refl, sym, ap, ◌∙◌, subst}
 use Rattle.std.specs.Str.{bytes_eq}
 use Rattle.std.proofs.lemmas.Slice.Eq.{bytes_eq-Decides}
 use Rattle.value_core.specs.Value.{Value, Assigns, no_assigns, same}
 use Rattle.ast_core.specs.Syntax.{Place, put, attribute, spread, if_place, case_place, for_place, call, render_slot, live_call, stream_place, Nodes, no_nodes, node}
-use Rattle.ast_core.specs.Free.{free, free_place}
+use Rattle.ast_core.specs.Free.{free_names, free_place}
 use Rattle.doc_model.specs.Environment.{Component, Env, binding, bindings, bind, inside, reading, find}
-use Rattle.doc_model.specs.Evaluation.{Res, then_do, on_res, eval_expr, eval_pairs, printed, is_true}
+use Rattle.doc_model.specs.Evaluation.{Res, then_do, on_res, eval_expr, printed, is_true}
 use Rattle.doc_model.specs.Printing.{escape_text, print_attribute, print_spread}
 use Rattle.value_core.specs.declared.raise.Raise.TheVariants.{NoClause}
 use Rattle.doc_model.specs.Trace.{Items, item, Item, met_text, met_branch, met_rows, met_call, met_slots, met_component, met_stream, item_row, slot_of}
 use Rattle.doc_model.specs.Components.{Part, parts, parts_of, parts_of_rows, parts_of_slots, AllOf, Lives}
-use Rattle.doc_model.specs.Scopes.{Site, Deeper, Captured, chosen, with_entries, callee, component_scope, component_of, or_none, id_of, slot_scope, stream_of, stream_scopes, operations, row_scopes, items_of, slots_of}
+use Rattle.doc_model.specs.Scopes.{Site, Deeper, Captured, chosen, callee, component_scope, component_of, or_none, id_of, slot_scope, stream_of, stream_scopes, operations, row_scopes, slots_of}
 use Rattle.ast_core.specs.Places.{cut, places_in}
 use Rattle.doc_model.specs.Tracing.{trace, trace_places, trace_place, trace_rows, trace_slot, trace_slots, trace_else}
-use Rattle.doc_model.proofs.Results.{On, on_made, on_bind, on_both, on_weaker, on_all, on_eq, on_then}
+use Rattle.doc_model.proofs.Results.{On, on_made, on_bind, on_both, on_weaker, on_all, on_then}
 use Rattle.doc_model.proofs.Sames.{both_true}
+use Rattle.doc_model.specs.Calls.{items_of, call_assigns, live_assigns, module_in}
 
 pub all_append : (P : Part → Type 0) (ps qs : List Part) → AllOf P ps → AllOf P qs → AllOf P (ps ++ qs)
 all_append P [] qs h k = k
@@ -129,22 +130,22 @@ module _ (site : Site) where
         both_on (Err x) e h = tt
 
     place_comes : (p : Place) (env : Env) → On (FromItem env) (trace_place site (trace site k) env p)
-    place_comes (put e) env = none_come env (λ t. met_text (reading env (free e)) (escape_text t)) (then_do (eval_expr env e) printed) (λ t. refl)
-    place_comes (attribute n e) env = none_come env (met_text (reading env (free e))) (then_do (eval_expr env e) (print_attribute n)) (λ t. refl)
-    place_comes (spread e) env = none_come env (met_text (reading env (free e))) (then_do (eval_expr env e) print_spread) (λ t. refl)
+    place_comes (put e) env = none_come env (λ t. met_text (reading env (free_names e)) (escape_text t)) (then_do (eval_expr env e) printed) (λ t. refl)
+    place_comes (attribute n e) env = none_come env (met_text (reading env (free_names e))) (then_do (eval_expr env e) (print_attribute n)) (λ t. refl)
+    place_comes (spread e) env = none_come env (met_text (reading env (free_names e))) (then_do (eval_expr env e) print_spread) (λ t. refl)
     place_comes (if_place t a b) env = on_bind (FromItem env) (eval_expr env t) _ (λ v. choice_comes env a b (is_true v))
     place_comes (case_place e cs) env = on_bind (FromItem env) (eval_expr env e) _ (λ v. on_bind (FromItem env) (chosen v cs) _ (λ c. branch_comes env c.index c.nodes (bind c.variables env) refl))
     place_comes (for_place p e body) env =
         on_made (FromItem env) (met_rows (reading env (free_place (for_place p e body))) (cut body)) (then_do (then_do (eval_expr env e) items_of) (λ vs. trace_rows (trace site k) body (row_scopes env p vs)))
         (on_bind (λ rs. From env.components (parts_of_rows rs)) (then_do (eval_expr env e) items_of) (λ vs. trace_rows (trace site k) body (row_scopes env p vs)) (λ vs. rows_come env.components (λ as'. inside as' env) body (bindings p vs) (λ y. refl)))
-    place_comes (call t ps es) env =
-        on_made (FromItem env) (met_call (cut (site.template t))) (then_do (eval_pairs env ps) (λ as'. trace site k (callee env (with_entries env es as')) (site.template t)))
-        (on_bind (λ is. From env.components (parts is)) (eval_pairs env ps) (λ as'. trace site k (callee env (with_entries env es as')) (site.template t)) (λ as'. comes (callee env (with_entries env es as')) (site.template t)))
+    place_comes (call t xs content es) env =
+        on_made (FromItem env) (met_call (cut (site.template t))) (then_do (call_assigns env xs content es) (λ as'. trace site k (callee env as') (site.template t)))
+        (on_bind (λ is. From env.components (parts is)) (call_assigns env xs content es) (λ as'. trace site k (callee env as') (site.template t)) (λ as'. comes (callee env as') (site.template t)))
     place_comes (render_slot e a) env =
-        on_made (FromItem env) met_slots (then_do (then_do (eval_expr env e) slots_of) (λ cs. then_do (eval_expr env a) (λ v. trace_slots site (trace site k) env v cs)))
-        (on_bind (λ ss. From env.components (parts_of_slots ss)) (then_do (eval_expr env e) slots_of) (λ cs. then_do (eval_expr env a) (λ v. trace_slots site (trace site k) env v cs))
+        on_made (FromItem env) met_slots (then_do (then_do (eval_expr env e) (slots_of site)) (λ cs. then_do (eval_expr env a) (λ v. trace_slots site (trace site k) env v cs)))
+        (on_bind (λ ss. From env.components (parts_of_slots ss)) (then_do (eval_expr env e) (slots_of site)) (λ cs. then_do (eval_expr env a) (λ v. trace_slots site (trace site k) env v cs))
         (λ cs. on_bind (λ ss. From env.components (parts_of_slots ss)) (eval_expr env a) (λ v. trace_slots site (trace site k) env v cs) (λ v. slots_come env v cs)))
-    place_comes (live_call m ps) env = on_then (Found m env.components) (FromItem env) (then_do (eval_pairs env ps) (component_of env m)) _ (live_lives env m (eval_pairs env ps)) (λ c fd. component_comes env m c fd)
+    place_comes (live_call xs content es) env = on_then (Found (module_in xs) env.components) (FromItem env) (then_do (live_assigns env xs) (component_of env (module_in xs))) _ (live_lives env (module_in xs) (live_assigns env xs)) (λ c fd. component_comes env (module_in xs) c fd)
     place_comes (stream_place s x p body) env =
         on_bind (FromItem env) (stream_of env s) _ (λ st. on_made (FromItem env) (met_stream s st.shown (operations x p st) (cut body)) (trace_rows (trace site k) body (stream_scopes env x p st)) (on_all _ (trace_rows (trace site k) body (stream_scopes env x p st)) (λ rs. tt)))
 

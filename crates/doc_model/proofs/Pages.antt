@@ -1,5 +1,5 @@
 -- L1 and L2 for pages with components.
-use Rattle.std.proofs.Common.{◌≡◌, ◌⊎◌, inl, inr, ℕ, zero, suc, max, ◌≤◌, List, [], ◌∷◌, ◌++◌, map, Result, Ok, Err, Option, Some, None, option_map, Bool, true, false, ◌&&◌, ◌==◌, if◌then◌else◌, refl, sym, ap, ◌∙◌, subst, arith, true≢false}
+use Rattle.std.proofs.Common.{◌≡◌, ◌⊎◌, ℕ, zero, suc, ◌≤◌, List, [], ◌∷◌, ◌++◌, Ok, Option, Some, None, option_map, Bool, true, false, ◌&&◌, ◌==◌, if◌then◌else◌, refl, sym, ap, ◌∙◌, subst, arith}
 use Rattle.std.proofs.lemmas.Bool.Decides.{Decides-eqb}
 use Rattle.ast_core.specs.Syntax.{Nodes}
 use Rattle.doc_model.specs.Environment.{Component, Env}
@@ -16,13 +16,13 @@ use Rattle.doc_model.specs.Laws.{Gives, WholeTreeShows, HeldTreeShows, MergeLean
 use Rattle.doc_model.specs.Scopes.{Site}
 use Rattle.doc_model.specs.Tracing.{trace}
 use Rattle.ast_core.specs.Places.{cut, places_in}
-use Rattle.doc_model.proofs.Results.{On, Pair, on_weaker}
+use Rattle.doc_model.proofs.Results.{On, Pair}
 use Rattle.doc_model.proofs.Shows.{trace_shown}
-use Rattle.doc_model.proofs.Wholes.{Good, GoodItem, GoodRows, GoodSlots, StillRows, still_rows, held_shows, whole_shows}
-use Rattle.doc_model.proofs.Merges.{Kept, KeptItem, lean_merges, opened_holds, merge_option, inner_gives}
-use Rattle.doc_model.proofs.Facts.{empty, unused_empty, unused_all, trace_good, trace_fresh}
-use Rattle.doc_model.proofs.Keeps.{trace_keeps, lean_gives_whole}
-use Rattle.doc_model.proofs.Origins.{all_append, all_left, all_right, all_weaker, all_both, Origin, scope_of, trace_comes}
+use Rattle.doc_model.proofs.Wholes.{Good, GoodItem, GoodRows, GoodSlots, still_rows, held_shows, whole_shows}
+use Rattle.doc_model.proofs.Merges.{Kept, lean_merges, opened_holds, merge_option, inner_gives}
+use Rattle.doc_model.proofs.Facts.{unused_all, trace_good, trace_fresh}
+use Rattle.doc_model.proofs.Keeps.{trace_keeps}
+use Rattle.doc_model.proofs.Origins.{all_left, all_right, all_weaker, all_both, Origin, scope_of, trace_comes}
 
 -- a component is found, and shows its text where those inside show theirs
 abbrev ShowsPart : (ℕ → List ℕ → List ℕ) → (ℕ → Option Tree) → Part → Type 0

@@ -1,23 +1,25 @@
 -- The one-pass law: what a pass meets is the trace of the state that it leaves.
-use Rattle.std.proofs.Common.{◌≡◌, ◌⊎◌, inl, inr, ℕ, zero, suc, nat_lt, List, [], ◌∷◌, ◌++◌, map, Result, Ok, Err, Option, Some, None, Bool, true, false, ◌&&◌, ◌==◌, if◌then◌else◌, refl, sym, ap, ◌∙◌, subst, arith, true≢false}
+use Rattle.std.proofs.Common.{◌≡◌, ◌⊎◌, ℕ, zero, suc, nat_lt, List, [], ◌∷◌, ◌++◌, map, Ok, Err, Option, Some, None, Bool, true, false, ◌&&◌, ◌==◌, if◌then◌else◌, refl, sym, ap, ◌∙◌, true≢false}
 use Rattle.std.specs.Str.{bytes_eq}
 use Rattle.std.proofs.lemmas.Bool.Decides.{Decides-eqb}
 use Rattle.std.proofs.lemmas.Slice.Eq.{bytes_eq-Decides}
 use Rattle.value_core.specs.Value.{Value, Values, Assigns, same, same_assigns}
-use Rattle.ast_core.specs.Syntax.{Name, Expr, Pairs, Entries, Place, put, attribute, spread, if_place, case_place, for_place, call, render_slot, live_call, stream_place, Nodes, no_nodes, node}
-use Rattle.ast_core.specs.Free.{free, free_pairs, free_entries, free_place}
+use Rattle.ast_core.specs.Syntax.{Name, Expr, Attributes, Body, Entries, Place, put, attribute, spread, if_place, case_place, for_place, call, render_slot, live_call, stream_place, Nodes, no_nodes, node}
+use Rattle.ast_core.specs.Free.{free_names, free_pairs, free_entries, free_place}
 use Rattle.doc_model.specs.Environment.{Component, Env, binding, bindings, bind, inside, reading, find}
-use Rattle.doc_model.specs.Evaluation.{Res, then_do, both, on_res, eval_expr, eval_pairs, printed, is_true}
+use Rattle.doc_model.specs.Evaluation.{Res, then_do, both, on_res, eval_expr, printed, is_true, eval_pairs}
 use Rattle.doc_model.specs.Printing.{escape_text, print_attribute, print_spread}
 use Rattle.value_core.specs.declared.raise.Raise.TheVariants.{NoClause, Duplicate, Range}
 use Rattle.doc_model.specs.Trace.{Items, no_items, item, met_text, met_nothing, met_branch, met_rows, met_call, met_slots, met_component, no_item_rows, item_row, no_slots, slot_of}
-use Rattle.doc_model.specs.Scopes.{Site, Captured, Chosen, chosen, with_entries, callee, component_scope, component_of, or_none, id_of, slot_scope, row_scopes, items_of, slots_of}
+use Rattle.doc_model.specs.Scopes.{Site, Captured, Chosen, chosen, callee, component_scope, component_of, or_none, id_of, slot_scope, row_scopes, slots_of}
 use Rattle.ast_core.specs.Places.{cut, places_in}
 use Rattle.doc_model.specs.Tracing.{trace, trace_places, trace_place, trace_rows, trace_slot, trace_slots, trace_else}
 use Rattle.doc_model.specs.Walk.{Owner, Views, Walk, component_with, owner_of, among, with_changed, Step, plainly, and_so, giving, in_turn, begin, go_on, reach_found, reach, Onward, pass_rows, pass_slot, pass_slots, pass_else, pass_place, pass_places, pass, swept, at_end_of_walk, in_state, OnePass}
-use Rattle.doc_model.proofs.Results.{On, on_made, on_bind, on_both, on_weaker, on_all, on_eq, on_then}
+use Rattle.doc_model.proofs.Results.{On}
 use Rattle.doc_model.proofs.Sames.{both_true, same_sound, same_refl}
-use Rattle.doc_model.proofs.Agrees.{Agree, agree_same, agree_reading, eval_agrees, pairs_agree, entries_agree}
+use Rattle.doc_model.proofs.Names.{Agree, agree_same, agree_reading, eval_agrees}
+use Rattle.doc_model.proofs.Calling.{call_same, live_same}
+use Rattle.doc_model.specs.Calls.{items_of, call_assigns, live_assigns, module_in}
 
 -- the components of these are found alike where they were met
 module _ {X : Type 0} where
@@ -203,16 +205,16 @@ then_assoc (Err e) f g = refl
 
 -- the table is not evaluated
 pub eval_in : (cs : List Component) (env : Env) (e : Expr) → eval_expr (in_state cs env) e ≡ eval_expr env e
-eval_in cs env e = eval_agrees e (in_state cs env) env (agree_same (in_state cs env) env (free e) refl refl)
-
-pub pairs_in : (cs : List Component) (env : Env) (ps : Pairs) → eval_pairs (in_state cs env) ps ≡ eval_pairs env ps
-pairs_in cs env ps = pairs_agree ps (in_state cs env) env (agree_same (in_state cs env) env (free_pairs ps) refl refl)
+eval_in cs env e = eval_agrees e (in_state cs env) env (agree_same (in_state cs env) env (free_names e) refl refl)
 
 pub reading_in : (cs : List Component) (env : Env) (ns : List Name) → reading (in_state cs env) ns ≡ reading env ns
 reading_in cs env ns = agree_reading (in_state cs env) env ns (agree_same (in_state cs env) env ns refl refl)
 
-pub entries_in : (cs : List Component) (env : Env) (es : Entries) (as' : Assigns) → with_entries (in_state cs env) es as' ≡ with_entries env es as'
-entries_in cs env es as' = entries_agree es (in_state cs env) env as' (agree_same (in_state cs env) env (free_entries es) refl refl)
+pub call_in : (cs : List Component) (env : Env) (xs : Attributes) (c : Body) (es : Entries) → call_assigns (in_state cs env) xs c es ≡ call_assigns env xs c es
+call_in cs env xs c es = call_same xs c es (in_state cs env) env refl refl
+
+pub live_in : (cs : List Component) (env : Env) (xs : Attributes) → live_assigns (in_state cs env) xs ≡ live_assigns env xs
+live_in cs env xs = live_same xs (in_state cs env) env refl refl
 
 module _ {X : Type 0} (views : Views X) (site : Site) (k : ℕ) where
   abbrev Traces : Type 0
@@ -252,13 +254,13 @@ module _ {X : Type 0} (views : Views X) (site : Site) (k : ℕ) where
     place_traced : (p : Place) (env : Env) (s : Walk X) → Traced s (λ cs. trace_place site (trace site k) (in_state cs env) p) (pass_place views site k onward env p s)
     place_traced (put e) env s =
         plainly_traced s (λ cs. trace_place site (trace site k) (in_state cs env) (put e)) (trace_place site (trace site k) env (put e))
-        (λ cs. ap (λ rd. on_res (λ t. met_text rd (escape_text t)) (then_do (eval_expr (in_state cs env) e) printed)) (reading_in cs env (free e)) ∙ ap (λ r. on_res (λ t. met_text (reading env (free e)) (escape_text t)) (then_do r printed)) (eval_in cs env e))
+        (λ cs. ap (λ rd. on_res (λ t. met_text rd (escape_text t)) (then_do (eval_expr (in_state cs env) e) printed)) (reading_in cs env (free_names e)) ∙ ap (λ r. on_res (λ t. met_text (reading env (free_names e)) (escape_text t)) (then_do r printed)) (eval_in cs env e))
     place_traced (attribute n e) env s =
         plainly_traced s (λ cs. trace_place site (trace site k) (in_state cs env) (attribute n e)) (trace_place site (trace site k) env (attribute n e))
-        (λ cs. ap (λ rd. on_res (met_text rd) (then_do (eval_expr (in_state cs env) e) (print_attribute n))) (reading_in cs env (free e)) ∙ ap (λ r. on_res (met_text (reading env (free e))) (then_do r (print_attribute n))) (eval_in cs env e))
+        (λ cs. ap (λ rd. on_res (met_text rd) (then_do (eval_expr (in_state cs env) e) (print_attribute n))) (reading_in cs env (free_names e)) ∙ ap (λ r. on_res (met_text (reading env (free_names e))) (then_do r (print_attribute n))) (eval_in cs env e))
     place_traced (spread e) env s =
         plainly_traced s (λ cs. trace_place site (trace site k) (in_state cs env) (spread e)) (trace_place site (trace site k) env (spread e))
-        (λ cs. ap (λ rd. on_res (met_text rd) (then_do (eval_expr (in_state cs env) e) print_spread)) (reading_in cs env (free e)) ∙ ap (λ r. on_res (met_text (reading env (free e))) (then_do r print_spread)) (eval_in cs env e))
+        (λ cs. ap (λ rd. on_res (met_text rd) (then_do (eval_expr (in_state cs env) e) print_spread)) (reading_in cs env (free_names e)) ∙ ap (λ r. on_res (met_text (reading env (free_names e))) (then_do r print_spread)) (eval_in cs env e))
     place_traced (stream_place x y p body) env s =
         plainly_traced s (λ cs. trace_place site (trace site k) (in_state cs env) (stream_place x y p body)) (trace_place site (trace site k) env (stream_place x y p body)) (λ cs. refl)
     place_traced (if_place t a b) env s =
@@ -279,30 +281,29 @@ module _ {X : Type 0} (views : Views X) (site : Site) (k : ℕ) where
         (giving_traced s (met_rows (reading env (free_place q)) (cut body)) (λ cs. then_do (f cs) (λ vs. g vs cs)) (and_so (plainly (then_do (eval_expr env e) items_of)) (λ vs. pass_rows views onward body (row_scopes env p vs)))
         (and_so_traced s f g (plainly (then_do (eval_expr env e) items_of)) (λ vs. pass_rows views onward body (row_scopes env p vs))
         (plainly_traced s f (then_do (eval_expr env e) items_of) (λ cs. ap (λ r. then_do r items_of) (eval_in cs env e))) (λ vs u. rows_traced (λ as'. inside as' env) body (bindings p vs) u)))
-    place_traced (call t ps es) env s =
-        let f = λ (cs : List Component). eval_pairs (in_state cs env) ps in
-        let g = λ (as' : Assigns) (cs : List Component). trace site k (callee (in_state cs env) (with_entries (in_state cs env) es as')) (site.template t) in
-        giving_traced s (met_call (cut (site.template t))) (λ cs. then_do (f cs) (λ as'. g as' cs)) (and_so (plainly (eval_pairs env ps)) (λ as'. onward (callee env (with_entries env es as')) (site.template t)))
-        (and_so_traced s f g (plainly (eval_pairs env ps)) (λ as'. onward (callee env (with_entries env es as')) (site.template t))
-        (plainly_traced s f (eval_pairs env ps) (λ cs. pairs_in cs env ps))
-        (λ as' u. traced_as u (λ cs. trace site k (in_state cs (callee env (with_entries env es as'))) (site.template t)) (g as') (onward (callee env (with_entries env es as')) (site.template t) u)
-        (λ cs. ap (λ x. trace site k (callee (in_state cs env) x) (site.template t)) (sym (entries_in cs env es as'))) (h (callee env (with_entries env es as')) (site.template t) u)))
+    place_traced (call t xs content es) env s =
+        let f = λ (cs : List Component). call_assigns (in_state cs env) xs content es in
+        let g = λ (as' : Assigns) (cs : List Component). trace site k (callee (in_state cs env) as') (site.template t) in
+        giving_traced s (met_call (cut (site.template t))) (λ cs. then_do (f cs) (λ as'. g as' cs)) (and_so (plainly (call_assigns env xs content es)) (λ as'. onward (callee env as') (site.template t)))
+        (and_so_traced s f g (plainly (call_assigns env xs content es)) (λ as'. onward (callee env as') (site.template t))
+        (plainly_traced s f (call_assigns env xs content es) (λ cs. call_in cs env xs content es))
+        (λ as' u. h (callee env as') (site.template t) u))
     place_traced (render_slot e a) env s =
-        let f = λ (cs : List Component). then_do (eval_expr (in_state cs env) e) slots_of in
+        let f = λ (cs : List Component). then_do (eval_expr (in_state cs env) e) (slots_of site) in
         let g = λ (v : Value) (cs' : List Captured) (cs : List Component). trace_slots site (trace site k) (in_state cs env) v cs' in
         let w = λ (cs' : List Captured) (cs : List Component). then_do (eval_expr (in_state cs env) a) (λ v. g v cs' cs) in
-        giving_traced s met_slots (λ cs. then_do (f cs) (λ cs'. w cs' cs)) (and_so (plainly (then_do (eval_expr env e) slots_of)) (λ cs'. and_so (plainly (eval_expr env a)) (λ v. pass_slots views site onward env v cs')))
-        (and_so_traced s f w (plainly (then_do (eval_expr env e) slots_of)) (λ cs'. and_so (plainly (eval_expr env a)) (λ v. pass_slots views site onward env v cs'))
-        (plainly_traced s f (then_do (eval_expr env e) slots_of) (λ cs. ap (λ r. then_do r slots_of) (eval_in cs env e)))
+        giving_traced s met_slots (λ cs. then_do (f cs) (λ cs'. w cs' cs)) (and_so (plainly (then_do (eval_expr env e) (slots_of site))) (λ cs'. and_so (plainly (eval_expr env a)) (λ v. pass_slots views site onward env v cs')))
+        (and_so_traced s f w (plainly (then_do (eval_expr env e) (slots_of site))) (λ cs'. and_so (plainly (eval_expr env a)) (λ v. pass_slots views site onward env v cs'))
+        (plainly_traced s f (then_do (eval_expr env e) (slots_of site)) (λ cs. ap (λ r. then_do r (slots_of site)) (eval_in cs env e)))
         (λ cs' u. and_so_traced u (λ cs. eval_expr (in_state cs env) a) (λ v cs. g v cs' cs) (plainly (eval_expr env a)) (λ v. pass_slots views site onward env v cs')
         (plainly_traced u (λ cs. eval_expr (in_state cs env) a) (eval_expr env a) (λ cs. eval_in cs env a)) (λ v t. slots_traced env v cs' t)))
-    place_traced (live_call m ps) env s =
-        let f = λ (cs : List Component). then_do (eval_pairs (in_state cs env) ps) (component_of (in_state cs env) m) in
-        let g = λ (c : Component) (cs : List Component). on_res (met_component c.number (cut (site.root m))) (trace site k (component_scope (in_state cs env) c) (site.root m)) in
-        and_so_traced s f g (and_so (plainly (eval_pairs env ps)) (reach views m)) (λ c. giving (met_component c.number (cut (site.root m))) (onward (component_scope env c) (site.root m)))
-        (and_so_traced s (λ cs. eval_pairs (in_state cs env) ps) (λ as' cs. component_of (in_state cs env) m as') (plainly (eval_pairs env ps)) (reach views m)
-        (plainly_traced s (λ cs. eval_pairs (in_state cs env) ps) (eval_pairs env ps) (λ cs. pairs_in cs env ps)) (λ as' u. reach_traced views m as' u env))
-        (λ c u. giving_traced u (met_component c.number (cut (site.root m))) (λ cs. trace site k (in_state cs (component_scope env c)) (site.root m)) (onward (component_scope env c) (site.root m)) (h (component_scope env c) (site.root m) u))
+    place_traced (live_call xs content es) env s =
+        let f = λ (cs : List Component). then_do (live_assigns (in_state cs env) xs) (component_of (in_state cs env) (module_in xs)) in
+        let g = λ (c : Component) (cs : List Component). on_res (met_component c.number (cut (site.root (module_in xs)))) (trace site k (component_scope (in_state cs env) c) (site.root (module_in xs))) in
+        and_so_traced s f g (and_so (plainly (live_assigns env xs)) (reach views (module_in xs))) (λ c. giving (met_component c.number (cut (site.root (module_in xs)))) (onward (component_scope env c) (site.root (module_in xs))))
+        (and_so_traced s (λ cs. live_assigns (in_state cs env) xs) (λ as' cs. component_of (in_state cs env) (module_in xs) as') (plainly (live_assigns env xs)) (reach views (module_in xs))
+        (plainly_traced s (λ cs. live_assigns (in_state cs env) xs) (live_assigns env xs) (λ cs. live_in cs env xs)) (λ as' u. reach_traced views (module_in xs) as' u env))
+        (λ c u. giving_traced u (met_component c.number (cut (site.root (module_in xs)))) (λ cs. trace site k (in_state cs (component_scope env c)) (site.root (module_in xs))) (onward (component_scope env c) (site.root (module_in xs))) (h (component_scope env c) (site.root (module_in xs)) u))
 
     places_traced : (ps : List Place) (env : Env) (s : Walk X) → Traced s (λ cs. trace_places site (trace site k) (in_state cs env) ps) (pass_places views site k onward env ps s)
     places_traced [] env s = plainly_traced s (λ cs. Ok no_items) (Ok no_items) (λ cs. refl)

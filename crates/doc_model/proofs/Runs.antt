@@ -1,5 +1,5 @@
 -- For every list of renderings since a join the merged frames show the page.
-use Rattle.std.proofs.Common.{◌≡◌, ◌⊎◌, inl, inr, ℕ, zero, suc, ◌≤◌, List, [], ◌∷◌, Result, Ok, Err, Option, Some, None, refl, sym, ap, ◌∙◌, subst, arith}
+use Rattle.std.proofs.Common.{◌≡◌, ◌⊎◌, inl, inr, ℕ, ◌≤◌, List, [], ◌∷◌, Ok, Err, Option, Some, None, refl, sym, ap, ◌∙◌, subst}
 use Rattle.ast_core.specs.Syntax.{Nodes}
 use Rattle.doc_model.specs.Environment.{Stream, Component}
 use Rattle.doc_model.specs.Evaluation.{Res, then_do, on_res}
@@ -19,7 +19,7 @@ use Rattle.doc_model.specs.Table.{IsTable, WasThere, IsNew, Honest}
 use Rattle.doc_model.specs.Walk.{Views, Walk, in_state, render_state}
 use Rattle.doc_model.specs.Run.{Turn, Renders, Joins, Turns, rendering_of, renderings_of, SessionShows}
 use Rattle.doc_model.proofs.Results.{On}
-use Rattle.doc_model.proofs.Facts.{empty, trace_fresh, unused_all, unused_empty}
+use Rattle.doc_model.proofs.Facts.{empty, trace_fresh, unused_empty}
 use Rattle.doc_model.proofs.Origins.{Origin, scope_of, all_weaker}
 use Rattle.doc_model.proofs.Pages.{origins}
 use Rattle.doc_model.proofs.Onces.{left_behind}

@@ -1,5 +1,5 @@
 -- The frames since a join show the page.
-use Rattle.std.proofs.Common.{◌≡◌, ℕ, ◌≤◌, List, [], ◌∷◌, Result, Ok, Err, Option, Some, None, option_map, refl, sym, ap, ◌∙◌, subst}
+use Rattle.std.proofs.Common.{◌≡◌, ℕ, ◌≤◌, List, [], ◌∷◌, Ok, Option, Some, None, option_map, refl, sym, ◌∙◌, subst}
 use Rattle.ast_core.specs.Syntax.{Nodes}
 use Rattle.diff_tree.specs.Tree.{opened, opened_all}
 use Rattle.doc_model.specs.Trace.{Items}

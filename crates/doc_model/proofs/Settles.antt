@@ -1,11 +1,11 @@
 -- The page of the settled state is the page that the rendering showed.
-use Rattle.std.proofs.Common.{◌≡◌, ◌⊎◌, inl, inr, ℕ, zero, suc, List, [], ◌∷◌, ◌++◌, map, Result, Ok, Err, Option, Some, None, Bool, true, false, ◌&&◌, if◌then◌else◌, refl, sym, ap, ◌∙◌, subst}
+use Rattle.std.proofs.Common.{◌≡◌, ◌⊎◌, ℕ, zero, suc, List, [], ◌∷◌, ◌++◌, map, Ok, Err, Option, Some, None, Bool, true, false, ◌&&◌, if◌then◌else◌, refl, sym, ap, ◌∙◌, subst}
 use Rattle.std.specs.Str.{bytes_eq}
 use Rattle.value_core.specs.Value.{Value, Values, Assigns, same}
-use Rattle.ast_core.specs.Syntax.{Pattern, Expr, Pairs, Entries, Place, put, attribute, spread, if_place, case_place, for_place, call, render_slot, live_call, stream_place, Nodes, no_nodes, node, Clauses}
-use Rattle.ast_core.specs.Free.{free, free_pairs, free_entries, free_place}
+use Rattle.ast_core.specs.Syntax.{Pattern, Expr, Pairs, Entries, Place, put, attribute, spread, if_place, case_place, for_place, call, render_slot, live_call, stream_place, Nodes, no_nodes, node, Clauses, Attributes, Body}
+use Rattle.ast_core.specs.Free.{free_names, free_pairs, free_entries, free_place}
 use Rattle.doc_model.specs.Environment.{Stream, Component, Env, binding, bindings, bind, inside, reading, find}
-use Rattle.doc_model.specs.Evaluation.{Res, then_do, both, on_res, eval_expr, eval_pairs, printed, is_true}
+use Rattle.doc_model.specs.Evaluation.{Res, then_do, both, on_res, eval_expr, printed, is_true, eval_pairs}
 use Rattle.doc_model.specs.Printing.{escape_text, print_attribute, print_spread}
 use Rattle.diff_tree.specs.Container.{after, contents}
 use Rattle.value_core.specs.declared.raise.Raise.TheVariants.{NoClause, NoAssign}
@@ -15,17 +15,19 @@ use Rattle.doc_model.specs.Left.{Containers, Leaves, LeavesItem, clause_at}
 use Rattle.doc_model.specs.Components.{Part, parts, parts_of, parts_of_rows, parts_of_slots, AllOf, Lives}
 use Rattle.doc_model.specs.Once.{left, left_to}
 use Rattle.doc_model.specs.Run.{settled_stream, settled_streams, settled_components, settled_env, SettledShows}
-use Rattle.doc_model.specs.Scopes.{Site, Deeper, Captured, Chosen, chosen, with_entries, callee, component_scope, component_of, or_none, id_of, slot_scope, stream_scopes, operations, row_scopes, items_of, slots_of}
+use Rattle.doc_model.specs.Scopes.{Site, Deeper, Captured, Chosen, chosen, callee, component_scope, component_of, or_none, id_of, slot_scope, stream_scopes, operations, row_scopes, slots_of}
 use Rattle.ast_core.specs.Places.{cut, places_in}
 use Rattle.doc_model.specs.FullRendering.{full_render, full_place, full_rows, full_slot, full_slots, full_else}
 use Rattle.doc_model.specs.Tracing.{trace, trace_places, trace_place, trace_rows, trace_slot, trace_slots, trace_else}
-use Rattle.doc_model.proofs.Results.{On, on_made, on_bind, on_both, on_weaker, on_all, on_then}
+use Rattle.doc_model.proofs.Results.{On, on_made, on_both, on_weaker, on_all}
 use Rattle.doc_model.proofs.Weave.{each, nodes_woven}
 use Rattle.doc_model.proofs.Shows.{trace_shown}
-use Rattle.doc_model.proofs.Agrees.{agree_same, eval_agrees, pairs_agree, entries_agree}
+use Rattle.doc_model.proofs.Names.{agree_same, eval_agrees}
+use Rattle.doc_model.proofs.Calling.{call_same, live_same}
 use Rattle.doc_model.proofs.Facts.{empty, chosen_at, LeavesNone, trace_leaves_none}
 use Rattle.doc_model.proofs.Origins.{all_left, all_right, live_lives}
 use Rattle.doc_model.proofs.Onces.{left_behind}
+use Rattle.doc_model.specs.Calls.{items_of, call_assigns, live_assigns, module_in}
 
 module _ (site : Site) (f : ℕ → Containers) where
   abbrev Behind : List Component → List Part → Type 0
@@ -38,13 +40,13 @@ module _ (site : Site) (f : ℕ → Containers) where
   Settles go to = (g : Containers) (env : Env) (ns : Nodes) → On (λ is. Leaves site.mark g (places_in ns) is → Behind env.components (parts is) → to (settled_env g f env) ns ≡ Ok (weave (cut ns) (texts site.mark is))) (go env ns)
 
   eval_settled : (g : Containers) (env : Env) (e : Expr) → eval_expr (settled_env g f env) e ≡ eval_expr env e
-  eval_settled g env e = eval_agrees e (settled_env g f env) env (agree_same (settled_env g f env) env (free e) refl refl)
+  eval_settled g env e = eval_agrees e (settled_env g f env) env (agree_same (settled_env g f env) env (free_names e) refl refl)
 
-  pairs_settled : (g : Containers) (env : Env) (ps : Pairs) → eval_pairs (settled_env g f env) ps ≡ eval_pairs env ps
-  pairs_settled g env ps = pairs_agree ps (settled_env g f env) env (agree_same (settled_env g f env) env (free_pairs ps) refl refl)
+  call_settled : (g : Containers) (env : Env) (xs : Attributes) (c : Body) (es : Entries) → call_assigns (settled_env g f env) xs c es ≡ call_assigns env xs c es
+  call_settled g env xs c es = call_same xs c es (settled_env g f env) env refl refl
 
-  entries_settled : (g : Containers) (env : Env) (es : Entries) (as' : Assigns) → with_entries (settled_env g f env) es as' ≡ with_entries env es as'
-  entries_settled g env es as' = entries_agree es (settled_env g f env) env as' (agree_same (settled_env g f env) env (free_entries es) refl refl)
+  live_settled : (g : Containers) (env : Env) (xs : Attributes) → live_assigns (settled_env g f env) xs ≡ live_assigns env xs
+  live_settled g env xs = live_same xs (settled_env g f env) env refl refl
 
   abbrev settle_one : Component → Component
   settle_one c = record c { streams = settled_stream (f c.number) }
@@ -154,9 +156,9 @@ module _ (site : Site) (f : ℕ → Containers) where
     then_eq r r' k e = ap (λ z. then_do z k) e
 
     place_settles : (p : Place) (g : Containers) (env : Env) → On (At g env p) (trace_place site go env p)
-    place_settles (put e) g env = text_settles g env (put e) (λ t. met_text (reading env (free e)) (escape_text t)) escape_text (then_do (eval_expr env e) printed) (λ t. refl) (ap (λ r. on_res escape_text (then_do r printed)) (eval_settled g env e))
-    place_settles (attribute n e) g env = text_settles g env (attribute n e) (met_text (reading env (free e))) (λ t. t) (then_do (eval_expr env e) (print_attribute n)) (λ t. refl) (ap (λ r. then_do r (print_attribute n)) (eval_settled g env e) ∙ on_id _)
-    place_settles (spread e) g env = text_settles g env (spread e) (met_text (reading env (free e))) (λ t. t) (then_do (eval_expr env e) print_spread) (λ t. refl) (ap (λ r. then_do r print_spread) (eval_settled g env e) ∙ on_id _)
+    place_settles (put e) g env = text_settles g env (put e) (λ t. met_text (reading env (free_names e)) (escape_text t)) escape_text (then_do (eval_expr env e) printed) (λ t. refl) (ap (λ r. on_res escape_text (then_do r printed)) (eval_settled g env e))
+    place_settles (attribute n e) g env = text_settles g env (attribute n e) (met_text (reading env (free_names e))) (λ t. t) (then_do (eval_expr env e) (print_attribute n)) (λ t. refl) (ap (λ r. then_do r (print_attribute n)) (eval_settled g env e) ∙ on_id _)
+    place_settles (spread e) g env = text_settles g env (spread e) (met_text (reading env (free_names e))) (λ t. t) (then_do (eval_expr env e) print_spread) (λ t. refl) (ap (λ r. then_do r print_spread) (eval_settled g env e) ∙ on_id _)
     place_settles (if_place t a b) g env = by_value (eval_expr env t) (eval_settled g env t)
       where
         by_value : (r : Res Value) → eval_expr (settled_env g f env) t ≡ r → On (At g env (if_place t a b)) (then_do r (λ v. if is_true v then on_res (met_branch 0 (cut a)) (go env a) else trace_else go env b))
@@ -174,19 +176,18 @@ module _ (site : Site) (f : ℕ → Containers) where
             on_made (At g env (for_place p e body)) (met_rows (reading env (free_place (for_place p e body))) (cut body)) (trace_rows go body (row_scopes env p vs))
             (on_weaker _ _ (trace_rows go body (row_scopes env p vs)) (λ rs k l b. ap (λ r. on_res flat (then_do r (λ vs. full_rows to body (row_scopes (settled_env g f env) p vs)))) q ∙ ap (on_res flat) (k b)) (rows_settle g env body (bindings p vs)))
         by_value (Err x) q = tt
-    place_settles (call t ps es) g env = by_value (eval_pairs env ps) (pairs_settled g env ps)
+    place_settles (call t xs content es) g env = by_value (call_assigns env xs content es) (call_settled g env xs content es)
       where
-        by_value : (r : Res Assigns) → eval_pairs (settled_env g f env) ps ≡ r → On (At g env (call t ps es)) (on_res (met_call (cut (site.template t))) (then_do r (λ as'. go (callee env (with_entries env es as')) (site.template t))))
+        by_value : (r : Res Assigns) → call_assigns (settled_env g f env) xs content es ≡ r → On (At g env (call t xs content es)) (on_res (met_call (cut (site.template t))) (then_do r (λ as'. go (callee env as') (site.template t))))
         by_value (Ok as') q =
-            on_made (At g env (call t ps es)) (met_call (cut (site.template t))) (go (callee env (with_entries env es as')) (site.template t))
-            (on_weaker _ _ (go (callee env (with_entries env es as')) (site.template t))
-            (λ is k l b. ap (λ r. then_do r (λ as'. to (callee (settled_env g f env) (with_entries (settled_env g f env) es as')) (site.template t))) q
-            ∙ ap (λ x. to (callee (settled_env g f env) x) (site.template t)) (entries_settled g env es as') ∙ k b)
-            (none_settles g (callee env (with_entries env es as')) (site.template t) refl))
+            on_made (At g env (call t xs content es)) (met_call (cut (site.template t))) (go (callee env as') (site.template t))
+            (on_weaker _ _ (go (callee env as') (site.template t))
+            (λ is k l b. ap (λ r. then_do r (λ as'. to (callee (settled_env g f env) as') (site.template t))) q ∙ k b)
+            (none_settles g (callee env as') (site.template t) refl))
         by_value (Err x) q = tt
-    place_settles (render_slot e a) g env = by_value (then_do (eval_expr env e) slots_of) (ap (λ r. then_do r slots_of) (eval_settled g env e)) (eval_expr env a) (eval_settled g env a)
+    place_settles (render_slot e a) g env = by_value (then_do (eval_expr env e) (slots_of site)) (ap (λ r. then_do r (slots_of site)) (eval_settled g env e)) (eval_expr env a) (eval_settled g env a)
       where
-        by_value : (r : Res (List Captured)) → then_do (eval_expr (settled_env g f env) e) slots_of ≡ r → (w : Res Value) → eval_expr (settled_env g f env) a ≡ w
+        by_value : (r : Res (List Captured)) → then_do (eval_expr (settled_env g f env) e) (slots_of site) ≡ r → (w : Res Value) → eval_expr (settled_env g f env) a ≡ w
             → On (At g env (render_slot e a)) (on_res met_slots (then_do r (λ cs. then_do w (λ v. trace_slots site go env v cs))))
         by_value (Ok cs) q (Ok v) y =
             on_made (At g env (render_slot e a)) met_slots (trace_slots site go env v cs)
@@ -196,18 +197,18 @@ module _ (site : Site) (f : ℕ → Containers) where
             (slots_settle g env v cs))
         by_value (Ok cs) q (Err x) y = tt
         by_value (Err x) q w y = tt
-    place_settles (live_call m ps) g env =
-        by_component (then_do (eval_pairs env ps) (component_of env m)) (live_lives env m (eval_pairs env ps)) (ap (λ r. then_do r (component_of (settled_env g f env) m)) (pairs_settled g env ps) ∙ component_settled g env m (eval_pairs env ps))
+    place_settles (live_call xs content es) g env =
+        by_component (then_do (live_assigns env xs) (component_of env (module_in xs))) (live_lives env (module_in xs) (live_assigns env xs)) (ap (λ r. then_do r (component_of (settled_env g f env) (module_in xs))) (live_settled g env xs) ∙ component_settled g env (module_in xs) (live_assigns env xs))
       where
-        by_component : (r : Res Component) → On (λ c. Lives c env.components × (c.module_name ≡ m)) r → then_do (eval_pairs (settled_env g f env) ps) (component_of (settled_env g f env) m) ≡ on_res settle_one r
-            → On (At g env (live_call m ps)) (then_do r (λ c. on_res (met_component c.number (cut (site.root m))) (go (component_scope env c) (site.root m))))
+        by_component : (r : Res Component) → On (λ c. Lives c env.components × (c.module_name ≡ (module_in xs))) r → then_do (live_assigns (settled_env g f env) xs) (component_of (settled_env g f env) (module_in xs)) ≡ on_res settle_one r
+            → On (At g env (live_call xs content es)) (then_do r (λ c. on_res (met_component c.number (cut (site.root (module_in xs)))) (go (component_scope env c) (site.root (module_in xs)))))
         by_component (Err x) l q = tt
         by_component (Ok c) l q =
-            on_made (At g env (live_call m ps)) (met_component c.number (cut (site.root m))) (go (component_scope env c) (site.root m))
-            (on_weaker _ _ (go (component_scope env c) (site.root m))
-            (λ is k x b. ap (λ r. then_do r (λ c. on_res (site.mark c.number) (to (component_scope (settled_env g f env) c) (site.root m)))) q
+            on_made (At g env (live_call xs content es)) (met_component c.number (cut (site.root (module_in xs)))) (go (component_scope env c) (site.root (module_in xs)))
+            (on_weaker _ _ (go (component_scope env c) (site.root (module_in xs)))
+            (λ is k x b. ap (λ r. then_do r (λ c. on_res (site.mark c.number) (to (component_scope (settled_env g f env) c) (site.root (module_in xs))))) q
             ∙ ap (on_res (site.mark c.number)) (k (subst (λ y. Leaves site.mark (f c.number) (places_in (site.root y)) is) l.1 (b.0 c l.0 refl)) b.1))
-            (h (f c.number) (component_scope env c) (site.root m)))
+            (h (f c.number) (component_scope env c) (site.root (module_in xs))))
     place_settles (stream_place s x p body) g env = stream_settles g env s x p body env.streams (stream_full g env s x p body env.streams)
 
     places_settle : (ps : List Place) (g : Containers) (env : Env) → On (λ is. Leaves site.mark g ps is → Behind env.components (parts is) → each (full_place site to (settled_env g f env)) ps ≡ Ok (texts site.mark is)) (trace_places site go env ps)

@@ -1,20 +1,21 @@
 -- The trace shows the full rendering, and so does the whole tree.
-use Rattle.std.proofs.Common.{◌≡◌, ℕ, zero, suc, List, [], ◌∷◌, ◌++◌, map, Result, Ok, Err, Option, Some, None, Bool, true, false, if◌then◌else◌, refl, sym, ap, ◌∙◌, subst, append_assoc, append-nil}
+use Rattle.std.proofs.Common.{◌≡◌, ℕ, zero, suc, List, [], ◌∷◌, ◌++◌, Ok, Err, Option, Some, None, Bool, true, false, if◌then◌else◌, refl, sym, ap, ◌∙◌}
 use Rattle.value_core.specs.Value.{Value, Assigns}
 use Rattle.ast_core.specs.Syntax.{Place, put, attribute, spread, if_place, case_place, for_place, call, render_slot, live_call, stream_place, Nodes, no_nodes, node}
-use Rattle.ast_core.specs.Free.{free, free_place}
+use Rattle.ast_core.specs.Free.{free_names, free_place}
 use Rattle.doc_model.specs.Environment.{Env, binding, bind, reading}
-use Rattle.doc_model.specs.Evaluation.{Res, then_do, both, on_res, eval_expr, eval_pairs, printed, is_true}
+use Rattle.doc_model.specs.Evaluation.{Res, then_do, both, on_res, eval_expr, printed, is_true}
 use Rattle.doc_model.specs.Printing.{escape_text, print_attribute, print_spread}
 use Rattle.diff_tree.specs.Container.{after, contents}
 use Rattle.value_core.specs.declared.raise.Raise.TheVariants.{NoClause}
 use Rattle.diff_tree.specs.Tree.{weave, flat}
 use Rattle.doc_model.specs.Trace.{Items, item, Item, met_text, met_branch, met_rows, met_call, met_slots, met_component, met_stream, item_row, slot_of, texts, shown, row_texts, shown_slots}
-use Rattle.doc_model.specs.Scopes.{Site, Deeper, Captured, with_entries, callee, component_scope, component_of, slot_scope, stream_of, stream_scopes, operations, row_scopes, items_of, slots_of, chosen}
+use Rattle.doc_model.specs.Scopes.{Site, Deeper, Captured, callee, component_scope, component_of, slot_scope, stream_of, stream_scopes, operations, row_scopes, slots_of, chosen}
 use Rattle.ast_core.specs.Places.{cut, places_in}
 use Rattle.doc_model.specs.FullRendering.{full_render, full_place, full_rows, full_slot, full_slots, full_else}
 use Rattle.doc_model.specs.Tracing.{trace, trace_places, trace_place, trace_rows, trace_slot, trace_slots, trace_else}
 use Rattle.doc_model.proofs.Weave.{each, nodes_woven}
+use Rattle.doc_model.specs.Calls.{items_of, call_assigns, live_assigns, module_in}
 
 pub fuse : {A B C : Type 0} (f : A → B) (g : B → C) (h : A → C) (r : Res A) → ((a : A) → g (f a) ≡ h a) → on_res g (on_res f r) ≡ on_res h r
 fuse f g h (Ok a) e = ap Ok (e a)
@@ -68,13 +69,13 @@ module _ (site : Site) (go : Deeper Items) (to : Deeper (List ℕ)) (h : Shows s
       on_both (slot_of c.number (cut (site.body c.number).nodes)) (λ a b. a ++ b) (shown_slots site.mark) (λ is. weave (cut (site.body c.number).nodes) (texts site.mark is)) (shown_slots site.mark) (trace_slot site go env v c) (trace_slots site go env v cs) _ _ (λ x y. refl) (slot_shown env v c) (slots_shown env v cs)
 
   place_shown : (p : Place) (env : Env) → Seen (trace_place site go env p) ≡ full_place site to env p
-  place_shown (put e) env = fuse (λ t. met_text (reading env (free e)) (escape_text t)) (shown site.mark) escape_text (then_do (eval_expr env e) printed) (λ a. refl)
-  place_shown (attribute n e) env = fuse (met_text (reading env (free e))) (shown site.mark) (λ t. t) (then_do (eval_expr env e) (print_attribute n)) (λ a. refl) ∙ on_same (then_do (eval_expr env e) (print_attribute n))
+  place_shown (put e) env = fuse (λ t. met_text (reading env (free_names e)) (escape_text t)) (shown site.mark) escape_text (then_do (eval_expr env e) printed) (λ a. refl)
+  place_shown (attribute n e) env = fuse (met_text (reading env (free_names e))) (shown site.mark) (λ t. t) (then_do (eval_expr env e) (print_attribute n)) (λ a. refl) ∙ on_same (then_do (eval_expr env e) (print_attribute n))
     where
       on_same : (r : Res (List ℕ)) → on_res (λ t. t) r ≡ r
       on_same (Ok t) = refl
       on_same (Err k) = refl
-  place_shown (spread e) env = fuse (met_text (reading env (free e))) (shown site.mark) (λ t. t) (then_do (eval_expr env e) print_spread) (λ a. refl) ∙ on_same (then_do (eval_expr env e) print_spread)
+  place_shown (spread e) env = fuse (met_text (reading env (free_names e))) (shown site.mark) (λ t. t) (then_do (eval_expr env e) print_spread) (λ a. refl) ∙ on_same (then_do (eval_expr env e) print_spread)
     where
       on_same : (r : Res (List ℕ)) → on_res (λ t. t) r ≡ r
       on_same (Ok t) = refl
@@ -85,17 +86,17 @@ module _ (site : Site) (go : Deeper Items) (to : Deeper (List ℕ)) (h : Shows s
       fuse (met_rows (reading env (free_place (for_place p e body))) (cut body)) (shown site.mark) (λ rs. flat (row_texts site.mark (cut body) rs)) _ (λ a. refl)
       ∙ sym (fuse (row_texts site.mark (cut body)) flat (λ rs. flat (row_texts site.mark (cut body) rs)) _ (λ a. refl))
       ∙ ap (on_res flat) (on_then (row_texts site.mark (cut body)) (then_do (eval_expr env e) items_of) _ _ (λ vs. rows_shown body (row_scopes env p vs)))
-  place_shown (call t ps es) env =
+  place_shown (call t xs content es) env =
       fuse (met_call (cut (site.template t))) (shown site.mark) (λ is. weave (cut (site.template t)) (texts site.mark is)) _ (λ a. refl)
-      ∙ on_then (λ is. weave (cut (site.template t)) (texts site.mark is)) (eval_pairs env ps) _ _ (λ as'. h (callee env (with_entries env es as')) (site.template t))
+      ∙ on_then (λ is. weave (cut (site.template t)) (texts site.mark is)) (call_assigns env xs content es) _ _ (λ as'. h (callee env as') (site.template t))
   place_shown (render_slot e a) env =
       fuse met_slots (shown site.mark) (shown_slots site.mark) _ (λ a. refl)
-      ∙ on_then (shown_slots site.mark) (then_do (eval_expr env e) slots_of) _ _ (λ cs. on_then (shown_slots site.mark) (eval_expr env a) _ _ (λ v. slots_shown env v cs))
-  place_shown (live_call m ps) env =
-      on_then (shown site.mark) (then_do (eval_pairs env ps) (component_of env m)) _ _
-      (λ c. fuse (met_component c.number (cut (site.root m))) (shown site.mark) (λ is. site.mark c.number (weave (cut (site.root m)) (texts site.mark is))) (go (component_scope env c) (site.root m)) (λ a. refl)
-      ∙ sym (fuse (λ is. weave (cut (site.root m)) (texts site.mark is)) (site.mark c.number) (λ is. site.mark c.number (weave (cut (site.root m)) (texts site.mark is))) (go (component_scope env c) (site.root m)) (λ a. refl))
-      ∙ ap (on_res (site.mark c.number)) (h (component_scope env c) (site.root m)))
+      ∙ on_then (shown_slots site.mark) (then_do (eval_expr env e) (slots_of site)) _ _ (λ cs. on_then (shown_slots site.mark) (eval_expr env a) _ _ (λ v. slots_shown env v cs))
+  place_shown (live_call xs content es) env =
+      on_then (shown site.mark) (then_do (live_assigns env xs) (component_of env (module_in xs))) _ _
+      (λ c. fuse (met_component c.number (cut (site.root (module_in xs)))) (shown site.mark) (λ is. site.mark c.number (weave (cut (site.root (module_in xs))) (texts site.mark is))) (go (component_scope env c) (site.root (module_in xs))) (λ a. refl)
+      ∙ sym (fuse (λ is. weave (cut (site.root (module_in xs))) (texts site.mark is)) (site.mark c.number) (λ is. site.mark c.number (weave (cut (site.root (module_in xs))) (texts site.mark is))) (go (component_scope env c) (site.root (module_in xs))) (λ a. refl))
+      ∙ ap (on_res (site.mark c.number)) (h (component_scope env c) (site.root (module_in xs))))
   place_shown (stream_place s x p body) env =
       on_then (shown site.mark) (stream_of env s) _ _
       (λ st. fuse (met_stream s st.shown (operations x p st) (cut body)) (shown site.mark) (λ rs. flat (contents (after (operations x p st) (row_texts site.mark (cut body) rs) st.shown))) (trace_rows go body (stream_scopes env x p st)) (λ a. refl)

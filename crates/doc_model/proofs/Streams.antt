@@ -2,7 +2,7 @@
 use Rattle.std.proofs.Common.{◌≡◌, ℕ, zero, suc, ◌-◌, List, [], ◌∷◌, ◌++◌, length, take, drop, map, Bool, true, false, if◌then◌else◌, refl, sym, ap, ◌∙◌}
 use Rattle.std.specs.Str.{bytes_eq}
 use Rattle.std.proofs.lemmas.List.{map-append}
-use Rattle.diff_tree.specs.Container.{Position, at_end, at_place, Limit, no_limit, first_few, last_few, Row, Insert, Batch, has, replaced, deleted, put_at, placed, pruned, inserted, all_deleted, all_inserted, apply_batch}
+use Rattle.diff_tree.specs.Container.{Position, at_end, at_index, Limit, no_limit, first_few, last_few, Row, Insert, Batch, has, replaced, deleted, put_at, placed, pruned, inserted, all_deleted, all_inserted, apply_batch}
 
 module _ {X Y : Type 0} (f : X → Y) where
   abbrev pub over : Row X → Row Y
@@ -37,7 +37,7 @@ module _ {X Y : Type 0} (f : X → Y) where
 
   placed-seen : (p : Position) (r : Row X) (rs : List (Row X)) → placed p (over r) (seen rs) ≡ seen (placed p r rs)
   placed-seen at_end r rs = sym (map-append over rs (r ∷ []))
-  placed-seen (at_place n) r rs = put_at-seen n r rs
+  placed-seen (at_index n) r rs = put_at-seen n r rs
 
   take-seen : (n : ℕ) (rs : List (Row X)) → take n (seen rs) ≡ seen (take n rs)
   take-seen zero rs = refl

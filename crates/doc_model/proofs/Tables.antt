@@ -1,5 +1,5 @@
 -- The facts of the table of components, through one rendering.
-use Rattle.std.proofs.Common.{◌≡◌, ◌⊎◌, inl, inr, ⊎_elim, ℕ, zero, suc, ◌+◌, ◌<◌, ◌≤◌, nat_lt, List, [], ◌∷◌, ◌++◌, map, Result, Ok, Err, Option, Some, None, Bool, true, false, ◌&&◌, ◌==◌, if◌then◌else◌, refl, sym, ap, ◌∙◌, subst, arith, true≢false}
+use Rattle.std.proofs.Common.{◌≡◌, ◌⊎◌, inl, inr, ℕ, suc, ◌+◌, ◌<◌, ◌≤◌, nat_lt, List, [], ◌∷◌, ◌++◌, Ok, Err, Option, Some, None, Bool, true, false, ◌&&◌, ◌==◌, if◌then◌else◌, refl, sym, ap, ◌∙◌, subst, arith, true≢false}
 use Rattle.std.specs.Str.{bytes_eq}
 use Rattle.std.proofs.lemmas.Bool.Decides.{Decides-eqb}
 use Rattle.std.proofs.lemmas.Slice.Eq.{bytes_eq-Decides}
@@ -15,11 +15,11 @@ use Rattle.doc_model.specs.Scopes.{Site, id_of}
 use Rattle.doc_model.specs.Tracing.{trace}
 use Rattle.doc_model.specs.Walk.{Owner, Views, Walk, component_with, owner_of, among, with_changed, begin, go_on, reach_found, reach, pass, swept, at_end_of_walk, in_state, render_state}
 use Rattle.doc_model.specs.Table.{IsTable, WasThere, IsNew, Honest, SettledAs, LeftBehind, NextFollows}
-use Rattle.doc_model.proofs.Results.{On, on_weaker}
-use Rattle.doc_model.proofs.Sames.{both_true, same_sound, same_refl}
+use Rattle.doc_model.proofs.Results.{On}
+use Rattle.doc_model.proofs.Sames.{both_true, same_sound}
 use Rattle.doc_model.proofs.Origins.{Origin}
 use Rattle.doc_model.proofs.Pages.{at_all, origins}
-use Rattle.doc_model.proofs.Passes.{test_self, find_appended, find_last, among_more, among_self}
+use Rattle.doc_model.proofs.Passes.{test_self, find_appended}
 use Rattle.doc_model.proofs.Threads.{Thread, numbers, pass_through}
 
 abbrev test : List ℕ → Value → Component → Bool

@@ -1,20 +1,21 @@
 -- What is threaded through a pass: a relation between the process before and after, and the numbers met between.
-use Rattle.std.proofs.Common.{◌≡◌, ℕ, zero, suc, List, [], ◌∷◌, ◌++◌, map, Result, Ok, Err, Option, Some, None, Bool, true, false, if◌then◌else◌, refl, sym, ap, ◌∙◌, subst, append-nil}
+use Rattle.std.proofs.Common.{◌≡◌, ℕ, zero, suc, List, [], ◌∷◌, ◌++◌, map, Ok, Err, Option, Some, None, Bool, true, false, if◌then◌else◌, refl, sym, ◌∙◌, subst}
 use Rattle.std.proofs.lemmas.List.{map-append}
 use Rattle.value_core.specs.Value.{Value, Assigns}
 use Rattle.ast_core.specs.Syntax.{Place, put, attribute, spread, if_place, case_place, for_place, call, render_slot, live_call, stream_place, Nodes, no_nodes, node}
-use Rattle.ast_core.specs.Free.{free, free_place}
+use Rattle.ast_core.specs.Free.{free_names, free_place}
 use Rattle.doc_model.specs.Environment.{Component, Env, binding, bind, reading}
-use Rattle.doc_model.specs.Evaluation.{Res, then_do, on_res, eval_expr, eval_pairs, printed, is_true}
+use Rattle.doc_model.specs.Evaluation.{Res, then_do, on_res, eval_expr, printed, is_true}
 use Rattle.doc_model.specs.Printing.{escape_text, print_attribute, print_spread}
 use Rattle.value_core.specs.declared.raise.Raise.TheVariants.{NoClause}
 use Rattle.doc_model.specs.Trace.{Items, no_items, item, Item, met_text, met_nothing, met_branch, met_rows, met_call, met_slots, met_component, met_stream, ItemRows, no_item_rows, item_row, Slots, no_slots, slot_of}
 use Rattle.doc_model.specs.Components.{Part, parts, parts_of, parts_of_rows, parts_of_slots}
-use Rattle.doc_model.specs.Scopes.{Site, Captured, chosen, with_entries, callee, component_scope, slot_scope, stream_of, stream_scopes, operations, row_scopes, items_of, slots_of}
+use Rattle.doc_model.specs.Scopes.{Site, Captured, chosen, callee, component_scope, slot_scope, stream_of, stream_scopes, operations, row_scopes, slots_of}
 use Rattle.ast_core.specs.Places.{cut, places_in}
 use Rattle.doc_model.specs.Tracing.{trace, trace_place, trace_rows}
 use Rattle.doc_model.specs.Walk.{Views, Walk, Step, plainly, and_so, giving, in_turn, reach, Onward, pass_rows, pass_slot, pass_slots, pass_else, pass_place, pass_places, pass}
-use Rattle.doc_model.proofs.Results.{On, on_made, on_bind, on_all}
+use Rattle.doc_model.proofs.Results.{On, on_bind}
+use Rattle.doc_model.specs.Calls.{items_of, call_assigns, live_assigns, module_in}
 
 abbrev pub numbers : List Part → List ℕ
 numbers ps = map (λ p. p.number) ps
@@ -111,9 +112,9 @@ module _ {X : Type 0} (views : Views X) (R : Walk X → List ℕ → Walk X → 
     texts_none f (Err x) e = tt
 
     place_through : (p : Place) (env : Env) (s : Walk X) → Through of_item s (pass_place views site k onward env p s)
-    place_through (put e) env s = plainly_through of_item s (trace_place site (trace site k) env (put e)) (texts_none (λ t. met_text (reading env (free e)) (escape_text t)) (then_do (eval_expr env e) printed) (λ t. refl))
-    place_through (attribute n e) env s = plainly_through of_item s (trace_place site (trace site k) env (attribute n e)) (texts_none (met_text (reading env (free e))) (then_do (eval_expr env e) (print_attribute n)) (λ t. refl))
-    place_through (spread e) env s = plainly_through of_item s (trace_place site (trace site k) env (spread e)) (texts_none (met_text (reading env (free e))) (then_do (eval_expr env e) print_spread) (λ t. refl))
+    place_through (put e) env s = plainly_through of_item s (trace_place site (trace site k) env (put e)) (texts_none (λ t. met_text (reading env (free_names e)) (escape_text t)) (then_do (eval_expr env e) printed) (λ t. refl))
+    place_through (attribute n e) env s = plainly_through of_item s (trace_place site (trace site k) env (attribute n e)) (texts_none (met_text (reading env (free_names e))) (then_do (eval_expr env e) (print_attribute n)) (λ t. refl))
+    place_through (spread e) env s = plainly_through of_item s (trace_place site (trace site k) env (spread e)) (texts_none (met_text (reading env (free_names e))) (then_do (eval_expr env e) print_spread) (λ t. refl))
     place_through (stream_place x y p body) env s =
         plainly_through of_item s (trace_place site (trace site k) env (stream_place x y p body))
         (on_bind (λ i. of_item i ≡ []) (stream_of env x) _ (λ st. texts_none (met_stream x st.shown (operations y p st) (cut body)) (trace_rows (trace site k) body (stream_scopes env y p st)) (λ rs. refl)))
@@ -123,17 +124,17 @@ module _ {X : Type 0} (views : Views X) (R : Walk X → List ℕ → Walk X → 
     place_through (for_place p e body) env s =
         giving_through of_rows of_item (met_rows (reading env (free_place (for_place p e body))) (cut body)) s (and_so (plainly (then_do (eval_expr env e) items_of)) (λ vs. pass_rows views onward body (row_scopes env p vs))) (λ a. refl)
         (and_so_through of_rows s (then_do (eval_expr env e) items_of) (λ vs. pass_rows views onward body (row_scopes env p vs)) (λ vs. rows_through body (row_scopes env p vs) s))
-    place_through (call t ps es) env s =
-        giving_through of_items of_item (met_call (cut (site.template t))) s (and_so (plainly (eval_pairs env ps)) (λ as'. onward (callee env (with_entries env es as')) (site.template t))) (λ a. refl)
-        (and_so_through of_items s (eval_pairs env ps) (λ as'. onward (callee env (with_entries env es as')) (site.template t)) (λ as'. h (callee env (with_entries env es as')) (site.template t) s))
+    place_through (call t xs content es) env s =
+        giving_through of_items of_item (met_call (cut (site.template t))) s (and_so (plainly (call_assigns env xs content es)) (λ as'. onward (callee env as') (site.template t))) (λ a. refl)
+        (and_so_through of_items s (call_assigns env xs content es) (λ as'. onward (callee env as') (site.template t)) (λ as'. h (callee env as') (site.template t) s))
     place_through (render_slot e a) env s =
-        giving_through of_slots of_item met_slots s (and_so (plainly (then_do (eval_expr env e) slots_of)) (λ cs. and_so (plainly (eval_expr env a)) (λ v. pass_slots views site onward env v cs))) (λ x. refl)
-        (and_so_through of_slots s (then_do (eval_expr env e) slots_of) (λ cs. and_so (plainly (eval_expr env a)) (λ v. pass_slots views site onward env v cs))
+        giving_through of_slots of_item met_slots s (and_so (plainly (then_do (eval_expr env e) (slots_of site))) (λ cs. and_so (plainly (eval_expr env a)) (λ v. pass_slots views site onward env v cs))) (λ x. refl)
+        (and_so_through of_slots s (then_do (eval_expr env e) (slots_of site)) (λ cs. and_so (plainly (eval_expr env a)) (λ v. pass_slots views site onward env v cs))
         (λ cs. and_so_through of_slots s (eval_expr env a) (λ v. pass_slots views site onward env v cs) (λ v. slots_through env v cs s)))
-    place_through (live_call m ps) env s = by_pairs (eval_pairs env ps)
+    place_through (live_call xs content es) env s = by_pairs (live_assigns env xs)
       where
-        by_pairs : (r : Res Assigns) → Through of_item s (and_so (and_so (plainly r) (reach views m)) (λ c. giving (met_component c.number (cut (site.root m))) (onward (component_scope env c) (site.root m))) s)
-        by_pairs (Ok as') = live_through env m s (reach views m as' s) (th.at_reach m as' s)
+        by_pairs : (r : Res Assigns) → Through of_item s (and_so (and_so (plainly r) (reach views (module_in xs))) (λ c. giving (met_component c.number (cut (site.root (module_in xs)))) (onward (component_scope env c) (site.root (module_in xs)))) s)
+        by_pairs (Ok as') = live_through env (module_in xs) s (reach views (module_in xs) as' s) (th.at_reach (module_in xs) as' s)
         by_pairs (Err e) = tt
 
     places_through : (ps : List Place) (env : Env) (s : Walk X) → Through of_items s (pass_places views site k onward env ps s)

@@ -1,20 +1,21 @@
 -- One pass raises exactly where the walk alone, and then the trace of the state that it leaves, raise.
-use Rattle.std.proofs.Common.{◌≡◌, ℕ, zero, suc, List, [], ◌∷◌, ◌++◌, map, Result, Ok, Err, Option, Some, None, Bool, true, false, if◌then◌else◌, refl, sym, ap, ◌∙◌, subst}
+use Rattle.std.proofs.Common.{◌≡◌, ℕ, zero, suc, List, [], ◌∷◌, ◌++◌, map, Ok, Err, Option, Some, None, Bool, true, false, if◌then◌else◌, refl, sym, ap, ◌∙◌}
 use Rattle.value_core.specs.Value.{Value, Values, Assigns}
 use Rattle.ast_core.specs.Syntax.{Place, put, attribute, spread, if_place, case_place, for_place, call, render_slot, live_call, stream_place, Nodes, no_nodes, node}
-use Rattle.ast_core.specs.Free.{free, free_place}
+use Rattle.ast_core.specs.Free.{free_names, free_place}
 use Rattle.doc_model.specs.Environment.{Component, Env, binding, bindings, bind, inside, reading}
-use Rattle.doc_model.specs.Evaluation.{Res, then_do, both, on_res, eval_expr, eval_pairs, printed, is_true}
+use Rattle.doc_model.specs.Evaluation.{Res, then_do, both, on_res, eval_expr, printed, is_true, eval_pairs}
 use Rattle.doc_model.specs.Printing.{escape_text, print_attribute, print_spread}
 use Rattle.value_core.specs.declared.raise.Raise.TheVariants.{NoClause}
 use Rattle.doc_model.specs.Trace.{Items, no_items, item, Item, met_text, met_nothing, met_branch, met_rows, met_call, met_slots, met_component, no_item_rows, item_row, no_slots, slot_of}
-use Rattle.doc_model.specs.Scopes.{Site, Captured, Chosen, chosen, with_entries, callee, component_scope, component_of, slot_scope, row_scopes, items_of, slots_of}
+use Rattle.doc_model.specs.Scopes.{Site, Captured, Chosen, chosen, callee, component_scope, component_of, slot_scope, row_scopes, slots_of}
 use Rattle.ast_core.specs.Places.{cut, places_in}
 use Rattle.doc_model.specs.Tracing.{trace, trace_places, trace_place, trace_rows, trace_slot, trace_slots, trace_else}
 use Rattle.doc_model.specs.Walk.{Views, Walk, Step, nothing_more, plainly, and_so, giving, in_turn, reach, Onward, pass_rows, pass_slot, pass_slots, pass_else, pass_place, pass_places, pass, visit_rows, visit_slot, visit_slots, visit_else, visit_place, visit_places, visit, swept, at_end_of_walk, in_state, render_state, component_walk, PassIsWalkAndTrace}
 use Rattle.doc_model.proofs.Results.{On}
 use Rattle.doc_model.proofs.Runs.{traced_of}
-use Rattle.doc_model.proofs.Passes.{Settled, Extends, Traced, back, further, eval_in, pairs_in, entries_in, reading_in, then_assoc, reach_traced, swept_settled, one_pass}
+use Rattle.doc_model.proofs.Passes.{Settled, Extends, Traced, back, further, eval_in, live_in, call_in, reading_in, then_assoc, reach_traced, swept_settled, one_pass}
+use Rattle.doc_model.specs.Calls.{items_of, call_assigns, live_assigns, module_in}
 
 -- what an equation between results says
 on_res_ok : {A B : Type 0} (g : A → B) (r : Res A) (b : B) → on_res g r ≡ Ok b → (a : A) × (r ≡ Ok a) × (g a ≡ b)
@@ -158,13 +159,13 @@ module _ {X : Type 0} (views : Views X) (site : Site) (k : ℕ) where
     place_alike : (p : Place) (env : Env) (s : Walk X) → Alike s (λ cs. trace_place site (trace site k) (in_state cs env) p) (pass_place views site k onward env p s) (visit_place views site there env p s)
     place_alike (put e) env s =
         plainly_alike s (λ cs. trace_place site (trace site k) (in_state cs env) (put e)) (trace_place site (trace site k) env (put e))
-        (λ cs. ap (λ rd. on_res (λ t. met_text rd (escape_text t)) (then_do (eval_expr (in_state cs env) e) printed)) (reading_in cs env (free e)) ∙ ap (λ r. on_res (λ t. met_text (reading env (free e)) (escape_text t)) (then_do r printed)) (eval_in cs env e))
+        (λ cs. ap (λ rd. on_res (λ t. met_text rd (escape_text t)) (then_do (eval_expr (in_state cs env) e) printed)) (reading_in cs env (free_names e)) ∙ ap (λ r. on_res (λ t. met_text (reading env (free_names e)) (escape_text t)) (then_do r printed)) (eval_in cs env e))
     place_alike (attribute n e) env s =
         plainly_alike s (λ cs. trace_place site (trace site k) (in_state cs env) (attribute n e)) (trace_place site (trace site k) env (attribute n e))
-        (λ cs. ap (λ rd. on_res (met_text rd) (then_do (eval_expr (in_state cs env) e) (print_attribute n))) (reading_in cs env (free e)) ∙ ap (λ r. on_res (met_text (reading env (free e))) (then_do r (print_attribute n))) (eval_in cs env e))
+        (λ cs. ap (λ rd. on_res (met_text rd) (then_do (eval_expr (in_state cs env) e) (print_attribute n))) (reading_in cs env (free_names e)) ∙ ap (λ r. on_res (met_text (reading env (free_names e))) (then_do r (print_attribute n))) (eval_in cs env e))
     place_alike (spread e) env s =
         plainly_alike s (λ cs. trace_place site (trace site k) (in_state cs env) (spread e)) (trace_place site (trace site k) env (spread e))
-        (λ cs. ap (λ rd. on_res (met_text rd) (then_do (eval_expr (in_state cs env) e) print_spread)) (reading_in cs env (free e)) ∙ ap (λ r. on_res (met_text (reading env (free e))) (then_do r print_spread)) (eval_in cs env e))
+        (λ cs. ap (λ rd. on_res (met_text rd) (then_do (eval_expr (in_state cs env) e) print_spread)) (reading_in cs env (free_names e)) ∙ ap (λ r. on_res (met_text (reading env (free_names e))) (then_do r print_spread)) (eval_in cs env e))
     place_alike (stream_place x y p body) env s = plainly_alike s (λ cs. trace_place site (trace site k) (in_state cs env) (stream_place x y p body)) (trace_place site (trace site k) env (stream_place x y p body)) (λ cs. refl)
     place_alike (if_place t a b) env s =
         and_so_alike s (eval_expr env t) (λ cs. eval_expr (in_state cs env) t) (λ v cs. if is_true v then on_res (met_branch 0 (cut a)) (trace site k (in_state cs env) a) else trace_else (trace site k) (in_state cs env) b)
@@ -184,37 +185,36 @@ module _ {X : Type 0} (views : Views X) (site : Site) (k : ℕ) where
         (giving_alike s (met_rows (reading env (free_place q)) (cut body)) (λ cs. then_do (f cs) (λ vs. g vs cs)) (and_so (plainly (then_do (eval_expr env e) items_of)) (λ vs. pass_rows views onward body (row_scopes env p vs)) s) _
         (and_so_alike s (then_do (eval_expr env e) items_of) f g (λ vs. pass_rows views onward body (row_scopes env p vs)) (λ vs. visit_rows views there body (row_scopes env p vs))
         (λ cs. ap (λ r. then_do r items_of) (eval_in cs env e)) (λ vs. rows_alike (λ as'. inside as' env) body (bindings p vs) s)))
-    place_alike (call t ps es) env s =
-        let f = λ (cs : List Component). eval_pairs (in_state cs env) ps in
-        let g = λ (as' : Assigns) (cs : List Component). trace site k (callee (in_state cs env) (with_entries (in_state cs env) es as')) (site.template t) in
-        giving_alike s (met_call (cut (site.template t))) (λ cs. then_do (f cs) (λ as'. g as' cs)) (and_so (plainly (eval_pairs env ps)) (λ as'. onward (callee env (with_entries env es as')) (site.template t)) s) _
-        (and_so_alike s (eval_pairs env ps) f g (λ as'. onward (callee env (with_entries env es as')) (site.template t)) (λ as'. there (callee env (with_entries env es as')) (site.template t)) (λ cs. pairs_in cs env ps)
-        (λ as'. alike_as s (λ cs. trace site k (in_state cs (callee env (with_entries env es as'))) (site.template t)) (g as') _ _
-        (λ cs. ap (λ x. trace site k (callee (in_state cs env) x) (site.template t)) (sym (entries_in cs env es as'))) (h (callee env (with_entries env es as')) (site.template t) s)))
+    place_alike (call t xs content es) env s =
+        let f = λ (cs : List Component). call_assigns (in_state cs env) xs content es in
+        let g = λ (as' : Assigns) (cs : List Component). trace site k (callee (in_state cs env) as') (site.template t) in
+        giving_alike s (met_call (cut (site.template t))) (λ cs. then_do (f cs) (λ as'. g as' cs)) (and_so (plainly (call_assigns env xs content es)) (λ as'. onward (callee env as') (site.template t)) s) _
+        (and_so_alike s (call_assigns env xs content es) f g (λ as'. onward (callee env as') (site.template t)) (λ as'. there (callee env as') (site.template t)) (λ cs. call_in cs env xs content es)
+        (λ as'. h (callee env as') (site.template t) s))
     place_alike (render_slot e a) env s =
-        let f = λ (cs : List Component). then_do (eval_expr (in_state cs env) e) slots_of in
+        let f = λ (cs : List Component). then_do (eval_expr (in_state cs env) e) (slots_of site) in
         let g = λ (cs' : List Captured) (v : Value) (cs : List Component). trace_slots site (trace site k) (in_state cs env) v cs' in
         let w = λ (cs' : List Captured) (cs : List Component). then_do (eval_expr (in_state cs env) a) (λ v. g cs' v cs) in
-        giving_alike s met_slots (λ cs. then_do (f cs) (λ cs'. w cs' cs)) (and_so (plainly (then_do (eval_expr env e) slots_of)) (λ cs'. and_so (plainly (eval_expr env a)) (λ v. pass_slots views site onward env v cs')) s) _
-        (and_so_alike s (then_do (eval_expr env e) slots_of) f w (λ cs'. and_so (plainly (eval_expr env a)) (λ v. pass_slots views site onward env v cs')) (λ cs'. and_so (plainly (eval_expr env a)) (λ v. visit_slots views site there env v cs'))
-        (λ cs. ap (λ r. then_do r slots_of) (eval_in cs env e))
+        giving_alike s met_slots (λ cs. then_do (f cs) (λ cs'. w cs' cs)) (and_so (plainly (then_do (eval_expr env e) (slots_of site))) (λ cs'. and_so (plainly (eval_expr env a)) (λ v. pass_slots views site onward env v cs')) s) _
+        (and_so_alike s (then_do (eval_expr env e) (slots_of site)) f w (λ cs'. and_so (plainly (eval_expr env a)) (λ v. pass_slots views site onward env v cs')) (λ cs'. and_so (plainly (eval_expr env a)) (λ v. visit_slots views site there env v cs'))
+        (λ cs. ap (λ r. then_do r (slots_of site)) (eval_in cs env e))
         (λ cs'. and_so_alike s (eval_expr env a) (λ cs. eval_expr (in_state cs env) a) (g cs') (λ v. pass_slots views site onward env v cs') (λ v. visit_slots views site there env v cs') (λ cs. eval_in cs env a) (λ v. slots_alike env v cs' s)))
-    place_alike (live_call m ps) env s = by_pairs (eval_pairs env ps) (λ cs. pairs_in cs env ps)
+    place_alike (live_call xs content es) env s = by_pairs (live_assigns env xs) (λ cs. live_in cs env xs)
       where
         g : Component → List Component → Res Item
-        g c cs = on_res (met_component c.number (cut (site.root m))) (trace site k (component_scope (in_state cs env) c) (site.root m))
+        g c cs = on_res (met_component c.number (cut (site.root (module_in xs)))) (trace site k (component_scope (in_state cs env) c) (site.root (module_in xs)))
 
-        by_pairs : (r : Res Assigns) → ((cs : List Component) → eval_pairs (in_state cs env) ps ≡ r)
-            → Alike s (λ cs. then_do (then_do (eval_pairs (in_state cs env) ps) (component_of (in_state cs env) m)) (λ c. on_res (met_component c.number (cut (site.root m))) (trace site k (component_scope (in_state cs env) c) (site.root m))))
-            (and_so (and_so (plainly r) (reach views m)) (λ c. giving (met_component c.number (cut (site.root m))) (onward (component_scope env c) (site.root m))) s)
-            (and_so (and_so (plainly r) (reach views m)) (λ c. there (component_scope env c) (site.root m)) s)
+        by_pairs : (r : Res Assigns) → ((cs : List Component) → live_assigns (in_state cs env) xs ≡ r)
+            → Alike s (λ cs. then_do (then_do (live_assigns (in_state cs env) xs) (component_of (in_state cs env) (module_in xs))) (λ c. on_res (met_component c.number (cut (site.root (module_in xs)))) (trace site k (component_scope (in_state cs env) c) (site.root (module_in xs)))))
+            (and_so (and_so (plainly r) (reach views (module_in xs))) (λ c. giving (met_component c.number (cut (site.root (module_in xs)))) (onward (component_scope env c) (site.root (module_in xs)))) s)
+            (and_so (and_so (plainly r) (reach views (module_in xs))) (λ c. there (component_scope env c) (site.root (module_in xs))) s)
         by_pairs (Err z) e = (tt, tt)
         by_pairs (Ok as') e =
-            alike_as s (λ cs. then_do (component_of (in_state cs env) m as') (λ c. on_res (met_component c.number (cut (site.root m))) (trace site k (component_scope (in_state cs env) c) (site.root m)))) _ _ _
-            (λ cs. ap (λ y. then_do (then_do y (component_of (in_state cs env) m)) (λ c. on_res (met_component c.number (cut (site.root m))) (trace site k (component_scope (in_state cs env) c) (site.root m)))) (sym (e cs)))
-            (reached_alike s (reach views m as' s) (λ cs. component_of (in_state cs env) m as') (λ c cs. on_res (met_component c.number (cut (site.root m))) (trace site k (component_scope (in_state cs env) c) (site.root m)))
-            (λ c. giving (met_component c.number (cut (site.root m))) (onward (component_scope env c) (site.root m))) (λ c. there (component_scope env c) (site.root m)) (reach_traced views m as' s env)
-            (λ c t. giving_alike t (met_component c.number (cut (site.root m))) (λ cs. trace site k (in_state cs (component_scope env c)) (site.root m)) (onward (component_scope env c) (site.root m) t) (there (component_scope env c) (site.root m) t) (h (component_scope env c) (site.root m) t)))
+            alike_as s (λ cs. then_do (component_of (in_state cs env) (module_in xs) as') (λ c. on_res (met_component c.number (cut (site.root (module_in xs)))) (trace site k (component_scope (in_state cs env) c) (site.root (module_in xs))))) _ _ _
+            (λ cs. ap (λ y. then_do (then_do y (component_of (in_state cs env) (module_in xs))) (λ c. on_res (met_component c.number (cut (site.root (module_in xs)))) (trace site k (component_scope (in_state cs env) c) (site.root (module_in xs))))) (sym (e cs)))
+            (reached_alike s (reach views (module_in xs) as' s) (λ cs. component_of (in_state cs env) (module_in xs) as') (λ c cs. on_res (met_component c.number (cut (site.root (module_in xs)))) (trace site k (component_scope (in_state cs env) c) (site.root (module_in xs))))
+            (λ c. giving (met_component c.number (cut (site.root (module_in xs)))) (onward (component_scope env c) (site.root (module_in xs)))) (λ c. there (component_scope env c) (site.root (module_in xs))) (reach_traced views (module_in xs) as' s env)
+            (λ c t. giving_alike t (met_component c.number (cut (site.root (module_in xs)))) (λ cs. trace site k (in_state cs (component_scope env c)) (site.root (module_in xs))) (onward (component_scope env c) (site.root (module_in xs)) t) (there (component_scope env c) (site.root (module_in xs)) t) (h (component_scope env c) (site.root (module_in xs)) t)))
 
     places_alike : (ps : List Place) (env : Env) (s : Walk X) → Alike s (λ cs. trace_places site (trace site k) (in_state cs env) ps) (pass_places views site k onward env ps s) (visit_places views site there env ps s)
     places_alike [] env s = plainly_alike s (λ cs. Ok no_items) (Ok no_items) (λ cs. refl)

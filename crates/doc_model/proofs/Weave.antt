@@ -1,11 +1,11 @@
 -- The constant text of nodes, woven with the full rendering of their places, is their full rendering.
-use Rattle.std.proofs.Common.{◌≡◌, ℕ, zero, suc, List, [], ◌∷◌, ◌++◌, length, Result, Ok, Err, refl, sym, ap, ◌∙◌, subst, append_assoc, append-nil, codes}
-use Rattle.ast_core.specs.Syntax.{Attributes, no_attributes, written, valued, spread_of, Node, text_node, element, at_place, Place, attribute, spread, Nodes, no_nodes, node}
+use Rattle.std.proofs.Common.{◌≡◌, ℕ, List, [], ◌∷◌, ◌++◌, Ok, Err, refl, sym, ap, ◌∙◌, subst, append_assoc, append-nil, codes}
+use Rattle.ast_core.specs.Syntax.{Attributes, no_attributes, written, valued, spread_of, Node, text_node, element, at_place, Place, attribute, spread, Nodes, no_nodes, node, module_of}
 use Rattle.doc_model.specs.Environment.{Env}
 use Rattle.doc_model.specs.Evaluation.{Res, both, on_res}
 use Rattle.diff_tree.specs.Tree.{weave}
 use Rattle.doc_model.specs.Scopes.{Site, Deeper}
-use Rattle.ast_core.specs.Places.{opening, closing, places_of_attributes, places_of, places_in, join_statics, cut_attributes, cut, cut_node}
+use Rattle.ast_core.specs.Places.{written_text, opening, closing, places_of_attributes, places_of, places_in, join_statics, cut_attributes, cut, cut_node}
 use Rattle.doc_model.specs.FullRendering.{element_text, full_attributes, full_nodes, full_node, full_place}
 
 abbrev pub each : {A B : Type 0} → (A → Res B) → List A → Res (List B)
@@ -65,17 +65,18 @@ fit_cons : {A : Type 0} (x : A) (a : List (List ℕ)) (xs : List A) → Fit a xs
 fit_cons x [] xs h = absurd h
 fit_cons x (t ∷ a) xs h = h
 
-fit_attributes : (as' : Attributes) → Fit (cut_attributes as') (places_of_attributes as')
+fit_attributes : (xs : Attributes) → Fit (cut_attributes xs) (places_of_attributes xs)
 fit_attributes no_attributes = tt
-fit_attributes (written t as') = fit_join (t ∷ []) (cut_attributes as') [] (places_of_attributes as') tt (fit_attributes as')
-fit_attributes (valued n e as') = fit_cons (attribute n e) (cut_attributes as') (places_of_attributes as') (fit_attributes as')
-fit_attributes (spread_of e as') = fit_cons (spread e) (cut_attributes as') (places_of_attributes as') (fit_attributes as')
+fit_attributes (written n w xs) = fit_join (written_text n w ∷ []) (cut_attributes xs) [] (places_of_attributes xs) tt (fit_attributes xs)
+fit_attributes (valued n e xs) = fit_cons (attribute n e) (cut_attributes xs) (places_of_attributes xs) (fit_attributes xs)
+fit_attributes (spread_of e xs) = fit_cons (spread e) (cut_attributes xs) (places_of_attributes xs) (fit_attributes xs)
+fit_attributes (module_of m xs) = fit_attributes xs
 
 mutual
   fit_node : (n : Node) → Fit (cut_node n) (places_of n)
   fit_node (text_node t) = tt
-  fit_node (element t as' ns) = fit_tag t (cut_attributes as') (cut ns) (places_of_attributes as') (places_in ns) (fit_attributes as') (fit_nodes ns)
-  fit_node (at_place p) = tt
+  fit_node (element l t xs ns) = fit_tag t (cut_attributes xs) (cut ns) (places_of_attributes xs) (places_in ns) (fit_attributes xs) (fit_nodes ns)
+  fit_node (at_place o p) = tt
 
   pub fit_nodes : (ns : Nodes) → Fit (cut ns) (places_in ns)
   fit_nodes no_nodes = tt
@@ -141,22 +142,23 @@ module _ (site : Site) (go : Deeper (List ℕ)) (env : Env) where
   abbrev at' : Place → Res (List ℕ)
   at' p = full_place site go env p
 
-  attributes_woven : (as' : Attributes) → on_res (weave (cut_attributes as')) (each at' (places_of_attributes as')) ≡ full_attributes site go env as'
+  attributes_woven : (xs : Attributes) → on_res (weave (cut_attributes xs)) (each at' (places_of_attributes xs)) ≡ full_attributes site go env xs
   attributes_woven no_attributes = refl
-  attributes_woven (written t as') =
-      written_woven t (cut_attributes as') _ (fits_each at' (places_of_attributes as') (cut_attributes as') (fit_attributes as')) ∙ ap (on_res (λ u. t ++ u)) (attributes_woven as')
-  attributes_woven (valued n e as') = valued_woven (cut_attributes as') (at' (attribute n e)) _ ∙ ap (both (λ x y. x ++ y) (at' (attribute n e))) (attributes_woven as')
-  attributes_woven (spread_of e as') = valued_woven (cut_attributes as') (at' (spread e)) _ ∙ ap (both (λ x y. x ++ y) (at' (spread e))) (attributes_woven as')
+  attributes_woven (written n w xs) =
+      written_woven (written_text n w) (cut_attributes xs) _ (fits_each at' (places_of_attributes xs) (cut_attributes xs) (fit_attributes xs)) ∙ ap (on_res (λ u. written_text n w ++ u)) (attributes_woven xs)
+  attributes_woven (valued n e xs) = valued_woven (cut_attributes xs) (at' (attribute n e)) _ ∙ ap (both (λ x y. x ++ y) (at' (attribute n e))) (attributes_woven xs)
+  attributes_woven (spread_of e xs) = valued_woven (cut_attributes xs) (at' (spread e)) _ ∙ ap (both (λ x y. x ++ y) (at' (spread e))) (attributes_woven xs)
+  attributes_woven (module_of m xs) = attributes_woven xs
 
   mutual
     node_woven : (n : Node) → on_res (weave (cut_node n)) (each at' (places_of n)) ≡ full_node site go env n
     node_woven (text_node t) = refl
-    node_woven (element t as' ns) =
-        ap (on_res (weave (cut_node (element t as' ns)))) (each-append at' (places_of_attributes as') (places_in ns))
-        ∙ element_woven t (cut_attributes as') (cut ns) _ _ (fits_each at' (places_of_attributes as') (cut_attributes as') (fit_attributes as')) (fits_each at' (places_in ns) (cut ns) (fit_nodes ns))
-        ∙ ap (λ r. both (element_text t) r (on_res (weave (cut ns)) (each at' (places_in ns)))) (attributes_woven as')
-        ∙ ap (both (element_text t) (full_attributes site go env as')) (nodes_woven ns)
-    node_woven (at_place p) = one_woven (at' p)
+    node_woven (element l t xs ns) =
+        ap (on_res (weave (cut_node (element l t xs ns)))) (each-append at' (places_of_attributes xs) (places_in ns))
+        ∙ element_woven t (cut_attributes xs) (cut ns) _ _ (fits_each at' (places_of_attributes xs) (cut_attributes xs) (fit_attributes xs)) (fits_each at' (places_in ns) (cut ns) (fit_nodes ns))
+        ∙ ap (λ r. both (element_text t) r (on_res (weave (cut ns)) (each at' (places_in ns)))) (attributes_woven xs)
+        ∙ ap (both (element_text t) (full_attributes site go env xs)) (nodes_woven ns)
+    node_woven (at_place o p) = one_woven (at' p)
 
     pub nodes_woven : (ns : Nodes) → on_res (weave (cut ns)) (each (full_place site go env) (places_in ns)) ≡ full_nodes site go env ns
     nodes_woven no_nodes = refl

@@ -1,5 +1,5 @@
 -- What whole trees and held trees show.
-use Rattle.std.proofs.Common.{◌≡◌, ℕ, zero, suc, List, [], ◌∷◌, ◌++◌, length, map, Option, Some, None, Bool, true, false, refl, sym, ap, ◌∙◌, subst}
+use Rattle.std.proofs.Common.{◌≡◌, ℕ, List, [], ◌∷◌, ◌++◌, length, map, true, refl, sym, ap, ◌∙◌}
 use Rattle.diff_tree.specs.Container.{Row, Insert, Batch, after, apply_batch, filled, all_filled, contents}
 use Rattle.diff_tree.specs.Tree.{Tree, text, number, node, list, stream, held, Trees, no_trees, tree, Rows, no_rows, row, Held, none_held, hold, row_list, held_list, held_of, show_value, show_values, show_rows, show_held, weave, flat, opened, opened_all, opened_rows, all_fit}
 use Rattle.doc_model.specs.Trace.{Items, no_items, item, Item, met_text, met_nothing, met_branch, met_rows, met_call, met_slots, met_component, met_stream, ItemRows, no_item_rows, item_row, Slots, no_slots, slot_of, texts, shown, row_texts, shown_slots}

@@ -19,8 +19,8 @@ abbrev mutual
 
   pub UnusedNode : Containers → Node → Type 0
   UnusedNode f (text_node t) = Unit {0}
-  UnusedNode f (element t as' ns) = Unused f ns
-  UnusedNode f (at_place p) = UnusedPlace f p
+  UnusedNode f (element l t xs ns) = Unused f ns
+  UnusedNode f (at_place o p) = UnusedPlace f p
 
   pub UnusedPlace : Containers → Place → Type 0
   UnusedPlace f (if_place t a b) = Unused f a × Unused f b

@@ -1,6 +1,7 @@
 pub mod Environment
 pub mod Evaluation
 pub mod Printing
+pub mod Calls
 pub mod Scopes
 pub mod FullRendering
 pub mod Trace

@@ -1,9 +1,8 @@
 -- What stands in scope where a template, a branch, a row, a slot body or a component is rendered.
 use Rattle.std.specs.Prelude.{ℕ, suc, List, [], ◌∷◌, map, Ok, Err, Option, Some, None, Bool, true, false, if◌then◌else◌, codes}
-use Rattle.value_core.specs.Value.{Value, slot, list, tuple, nil, map_of, text, whole_number, Values, no_values, value, Assigns, no_assigns, assign}
-use Rattle.ast_core.specs.Syntax.{Pattern, Nodes, Clauses, no_clauses, clause, Entries, no_entries, entry}
-use Rattle.ast_core.specs.Free.{bound, without, free_nodes}
-use Rattle.doc_model.specs.Environment.{Stream, Component, Env, lookup, with_key, over, binding, bindings, inside, captured_assigns, captured_variables, find}
+use Rattle.value_core.specs.Value.{Value, slot, list, nil, map_of, text, whole_number, Values, no_values, value, Assigns, no_assigns, assign}
+use Rattle.ast_core.specs.Syntax.{Pattern, Nodes, Clauses, no_clauses, clause}
+use Rattle.doc_model.specs.Environment.{Stream, Component, Env, lookup, over, binding, bindings, inside, find}
 use Rattle.doc_model.specs.Evaluation.{Res, then_do, both, on_res, or_raise}
 use Rattle.diff_tree.specs.Container.{Insert, Batch}
 use Rattle.value_core.specs.declared.raise.Raise.TheVariants.{BadArgument, NoAssign, NoClause}
@@ -12,22 +11,13 @@ pub record SlotBody : Type 0 where
   pub pattern : Pattern
   pub nodes : Nodes
 
--- the templates by name, the slot bodies by number, the templates of modules, and a text with a component's mark
+-- the templates by name, the slot bodies by number and which numbers have one, the templates of modules, and a text with a component's mark
 pub record Site : Type 0 where
   pub template : List ℕ → Nodes
+  pub has_body : ℕ → Bool
   pub body : ℕ → SlotBody
   pub root : List ℕ → Nodes
   pub mark : ℕ → List ℕ → List ℕ
-
--- the slot values of a call, over the attributes
-abbrev pub slot_entry : ℕ → Assigns → Assigns → Value
-slot_entry b as' vs = map_of (assign (codes "inner_block") (slot b as' vs) no_assigns)
-
-abbrev pub with_entries : Env → Entries → Assigns → Assigns
-with_entries env no_entries as' = as'
-with_entries env (entry s b p ns es) as' =
-    let names = without (bound p) (free_nodes ns) in
-    with_key s (list (value (slot_entry b (captured_assigns env names) (captured_variables env names)) no_values)) (with_entries env es as')
 
 -- the scopes of a callee, of a slot body, of a component and of a stream's rows
 abbrev pub callee : Env → Assigns → Env
@@ -39,37 +29,30 @@ component_scope env c = record { assigns = c.assigns; variables = no_assigns; st
 abbrev pub stream_row : Env → Assigns → Env
 stream_row env as' = record { assigns = env.assigns; variables = over as' env.variables; streams = None; components = [] }
 
-abbrev pub items_of : Value → Res Values
-items_of (list vs) = Ok vs
-items_of (map_of as') = Ok (pairs as')
-  where
-    pairs : Assigns → Values
-    pairs no_assigns = no_values
-    pairs (assign k v as') = value (tuple (value (text k) (value v no_values))) (pairs as')
-items_of _ = Err BadArgument
-
 -- a slot value: the number of its body, and what it captured
 pub record Captured : Type 0 where
   pub number : ℕ
   pub assigns : Assigns
   pub variables : Assigns
 
-abbrev pub as_slot : Option Value → Res Captured
-as_slot (Some (slot b as' vs)) = Ok (record { number = b; assigns = as'; variables = vs })
-as_slot _ = Err BadArgument
+-- the slot of an entry; a slot that names no body of the bundle is none
+abbrev pub as_slot : Site → Option Value → Res Captured
+as_slot site (Some (slot b as' vs)) = if site.has_body b then Ok (record { number = b; assigns = as'; variables = vs }) else Err BadArgument
+as_slot site _ = Err BadArgument
 
-abbrev pub entry_of : Value → Res Captured
-entry_of (map_of as') = as_slot (lookup (codes "inner_block") as')
-entry_of _ = Err BadArgument
+abbrev pub entry_of : Site → Value → Res Captured
+entry_of site (map_of as') = as_slot site (lookup (codes "inner_block") as')
+entry_of site _ = Err BadArgument
 
-abbrev pub entries_of : Values → Res (List Captured)
-entries_of no_values = Ok []
-entries_of (value v vs) = both (λ c cs. c ∷ cs) (entry_of v) (entries_of vs)
+abbrev pub entries_of : Site → Values → Res (List Captured)
+entries_of site no_values = Ok []
+entries_of site (value v vs) = both (λ c cs. c ∷ cs) (entry_of site v) (entries_of site vs)
 
-abbrev pub slots_of : Value → Res (List Captured)
-slots_of nil = Ok []
-slots_of (list vs) = entries_of vs
-slots_of v = on_res (λ c. c ∷ []) (entry_of v)
+-- the entries of a slot: a list of them, one, or nil for none
+abbrev pub slots_of : Site → Value → Res (List Captured)
+slots_of site nil = Ok []
+slots_of site (list vs) = entries_of site vs
+slots_of site v = on_res (λ c. c ∷ []) (entry_of site v)
 
 abbrev pub slot_scope : Env → Captured → Assigns → Env
 slot_scope env c as' = record { assigns = c.assigns; variables = over as' c.variables; streams = None; components = env.components }

@@ -2,14 +2,15 @@
 use Rattle.std.specs.Prelude.{ℕ, zero, suc, List, [], ◌∷◌, Ok, Err, Some, None, if◌then◌else◌}
 use Rattle.value_core.specs.Value.{Value}
 use Rattle.ast_core.specs.Syntax.{Place, put, attribute, spread, if_place, case_place, for_place, call, render_slot, live_call, stream_place, Nodes, no_nodes, node}
-use Rattle.ast_core.specs.Free.{free, free_place}
+use Rattle.ast_core.specs.Free.{free_names, free_place}
 use Rattle.doc_model.specs.Environment.{Env, binding, bind, reading}
-use Rattle.doc_model.specs.Evaluation.{Res, then_do, both, on_res, eval_expr, eval_pairs, printed, is_true}
+use Rattle.doc_model.specs.Evaluation.{Res, then_do, both, on_res, eval_expr, printed, is_true}
 use Rattle.doc_model.specs.Printing.{escape_text, print_attribute, print_spread}
 use Rattle.value_core.specs.declared.raise.Raise.TheVariants.{Deep, NoClause}
 use Rattle.doc_model.specs.Trace.{Items, no_items, item, Item, met_text, met_nothing, met_branch, met_rows, met_call, met_slots, met_component, met_stream, ItemRows, no_item_rows, item_row, Slots, no_slots, slot_of}
 use Rattle.ast_core.specs.Places.{cut, places_in}
-use Rattle.doc_model.specs.Scopes.{Captured, Deeper, Site, callee, chosen, component_of, component_scope, items_of, operations, row_scopes, slot_scope, slots_of, stream_of, stream_scopes, with_entries}
+use Rattle.doc_model.specs.Scopes.{Captured, Deeper, Site, callee, chosen, component_of, component_scope, operations, row_scopes, slot_scope, slots_of, stream_of, stream_scopes}
+use Rattle.doc_model.specs.Calls.{items_of, call_assigns, live_assigns, module_in}
 
 -- the trace, by the same recursion over the places
 abbrev pub trace_rows : Deeper Items → Nodes → List Env → Res ItemRows
@@ -30,21 +31,21 @@ trace_else go env no_nodes = Ok met_nothing
 trace_else go env (node n ns) = on_res (met_branch 1 (cut (node n ns))) (go env (node n ns))
 
 abbrev pub trace_place : Site → Deeper Items → Env → Place → Res Item
-trace_place site go env (put e) = on_res (λ t. met_text (reading env (free e)) (escape_text t)) (then_do (eval_expr env e) printed)
-trace_place site go env (attribute n e) = on_res (met_text (reading env (free e))) (then_do (eval_expr env e) (print_attribute n))
-trace_place site go env (spread e) = on_res (met_text (reading env (free e))) (then_do (eval_expr env e) print_spread)
+trace_place site go env (put e) = on_res (λ t. met_text (reading env (free_names e)) (escape_text t)) (then_do (eval_expr env e) printed)
+trace_place site go env (attribute n e) = on_res (met_text (reading env (free_names e))) (then_do (eval_expr env e) (print_attribute n))
+trace_place site go env (spread e) = on_res (met_text (reading env (free_names e))) (then_do (eval_expr env e) print_spread)
 trace_place site go env (if_place t a b) =
     then_do (eval_expr env t) (λ v. if is_true v then on_res (met_branch 0 (cut a)) (go env a) else trace_else go env b)
 trace_place site go env (case_place e cs) =
     then_do (eval_expr env e) (λ v. then_do (chosen v cs) (λ c. on_res (met_branch c.index (cut c.nodes)) (go (bind c.variables env) c.nodes)))
 trace_place site go env (for_place p e body) =
     on_res (met_rows (reading env (free_place (for_place p e body))) (cut body)) (then_do (then_do (eval_expr env e) items_of) (λ vs. trace_rows go body (row_scopes env p vs)))
-trace_place site go env (call t ps es) =
-    on_res (met_call (cut (site.template t))) (then_do (eval_pairs env ps) (λ as'. go (callee env (with_entries env es as')) (site.template t)))
+trace_place site go env (call t xs content es) =
+    on_res (met_call (cut (site.template t))) (then_do (call_assigns env xs content es) (λ as'. go (callee env as') (site.template t)))
 trace_place site go env (render_slot e a) =
-    on_res met_slots (then_do (then_do (eval_expr env e) slots_of) (λ cs. then_do (eval_expr env a) (λ v. trace_slots site go env v cs)))
-trace_place site go env (live_call m ps) =
-    then_do (then_do (eval_pairs env ps) (component_of env m)) (λ c. on_res (met_component c.number (cut (site.root m))) (go (component_scope env c) (site.root m)))
+    on_res met_slots (then_do (then_do (eval_expr env e) (slots_of site)) (λ cs. then_do (eval_expr env a) (λ v. trace_slots site go env v cs)))
+trace_place site go env (live_call xs content es) =
+    then_do (then_do (live_assigns env xs) (component_of env (module_in xs))) (λ c. on_res (met_component c.number (cut (site.root (module_in xs)))) (go (component_scope env c) (site.root (module_in xs))))
 trace_place site go env (stream_place s x p body) =
     then_do (stream_of env s) (λ st. on_res (met_stream s st.shown (operations x p st) (cut body)) (trace_rows go body (stream_scopes env x p st)))
 

@@ -5,12 +5,13 @@ use Rattle.value_core.specs.Value.{Value, Assigns, same, same_assigns}
 use Rattle.ast_core.specs.Syntax.{Place, put, attribute, spread, if_place, case_place, for_place, call, render_slot, live_call, stream_place, Nodes, no_nodes, node}
 use Rattle.ast_core.specs.Free.{free_place}
 use Rattle.doc_model.specs.Environment.{Stream, Component, Env, binding, bind, reading, find}
-use Rattle.doc_model.specs.Evaluation.{Res, then_do, on_res, eval_expr, eval_pairs, is_true}
+use Rattle.doc_model.specs.Evaluation.{Res, then_do, on_res, eval_expr, is_true}
 use Rattle.value_core.specs.declared.raise.Raise.TheVariants.{Deep, Duplicate, Range, NoClause}
 use Rattle.doc_model.specs.Trace.{Items, no_items, item, Item, met_nothing, met_branch, met_rows, met_call, met_slots, met_component, ItemRows, no_item_rows, item_row, Slots, no_slots, slot_of}
-use Rattle.doc_model.specs.Scopes.{Site, Captured, chosen, with_entries, callee, component_scope, id_of, slot_scope, row_scopes, items_of, slots_of}
+use Rattle.doc_model.specs.Scopes.{Site, Captured, chosen, callee, component_scope, id_of, slot_scope, row_scopes, slots_of}
 use Rattle.ast_core.specs.Places.{cut, places_in}
 use Rattle.doc_model.specs.Tracing.{trace, trace_place}
+use Rattle.doc_model.specs.Calls.{items_of, call_assigns, live_assigns, module_in}
 
 -- what handlers of a component change
 pub record Owner : Type 0 where
@@ -114,12 +115,12 @@ module _ {X : Type 0} (views : Views X) where
       and_so (plainly (then_do (eval_expr env e) (λ v. chosen v cs))) (λ c. giving (met_branch c.index (cut c.nodes)) (go (bind c.variables env) c.nodes))
   pass_place site k go env (for_place p e body) =
       giving (met_rows (reading env (free_place (for_place p e body))) (cut body)) (and_so (plainly (then_do (eval_expr env e) items_of)) (λ vs. pass_rows go body (row_scopes env p vs)))
-  pass_place site k go env (call t ps es) =
-      giving (met_call (cut (site.template t))) (and_so (plainly (eval_pairs env ps)) (λ as'. go (callee env (with_entries env es as')) (site.template t)))
+  pass_place site k go env (call t xs content es) =
+      giving (met_call (cut (site.template t))) (and_so (plainly (call_assigns env xs content es)) (λ as'. go (callee env as') (site.template t)))
   pass_place site k go env (render_slot e a) =
-      giving met_slots (and_so (plainly (then_do (eval_expr env e) slots_of)) (λ cs. and_so (plainly (eval_expr env a)) (λ v. pass_slots site go env v cs)))
-  pass_place site k go env (live_call m ps) =
-      and_so (and_so (plainly (eval_pairs env ps)) (reach m)) (λ c. giving (met_component c.number (cut (site.root m))) (go (component_scope env c) (site.root m)))
+      giving met_slots (and_so (plainly (then_do (eval_expr env e) (slots_of site))) (λ cs. and_so (plainly (eval_expr env a)) (λ v. pass_slots site go env v cs)))
+  pass_place site k go env (live_call xs content es) =
+      and_so (and_so (plainly (live_assigns env xs)) (reach (module_in xs))) (λ c. giving (met_component c.number (cut (site.root (module_in xs)))) (go (component_scope env c) (site.root (module_in xs))))
   pass_place site k go env (put e) = plainly (trace_place site (trace site k) env (put e))
   pass_place site k go env (attribute n e) = plainly (trace_place site (trace site k) env (attribute n e))
   pass_place site k go env (spread e) = plainly (trace_place site (trace site k) env (spread e))
@@ -167,10 +168,10 @@ module _ {X : Type 0} (views : Views X) where
   visit_place site go env (if_place t a b) = and_so (plainly (eval_expr env t)) (λ v. if is_true v then go env a else visit_else go env b)
   visit_place site go env (case_place e cs) = and_so (plainly (then_do (eval_expr env e) (λ v. chosen v cs))) (λ c. go (bind c.variables env) c.nodes)
   visit_place site go env (for_place p e body) = and_so (plainly (then_do (eval_expr env e) items_of)) (λ vs. visit_rows go body (row_scopes env p vs))
-  visit_place site go env (call t ps es) = and_so (plainly (eval_pairs env ps)) (λ as'. go (callee env (with_entries env es as')) (site.template t))
+  visit_place site go env (call t xs content es) = and_so (plainly (call_assigns env xs content es)) (λ as'. go (callee env as') (site.template t))
   visit_place site go env (render_slot e a) =
-      and_so (plainly (then_do (eval_expr env e) slots_of)) (λ cs. and_so (plainly (eval_expr env a)) (λ v. visit_slots site go env v cs))
-  visit_place site go env (live_call m ps) = and_so (and_so (plainly (eval_pairs env ps)) (reach views m)) (λ c. go (component_scope env c) (site.root m))
+      and_so (plainly (then_do (eval_expr env e) (slots_of site))) (λ cs. and_so (plainly (eval_expr env a)) (λ v. visit_slots site go env v cs))
+  visit_place site go env (live_call xs content es) = and_so (and_so (plainly (live_assigns env xs)) (reach views (module_in xs))) (λ c. go (component_scope env c) (site.root (module_in xs)))
   visit_place site go env _ = skip
 
   abbrev pub visit_places : Site → (Env → Nodes → Visit) → Env → List Place → Visit
