@@ -1,3 +1,4 @@
 pub mod Container
 pub mod Tree
 pub mod Client
+pub mod Mark

@@ -6,7 +6,8 @@ use Rattle.ast_core.specs.Syntax.{at, Expr, number, index, Pattern, any, pattern
 use Rattle.ast_core.specs.Free.{without, bound, free_names, free_pairs, free_nodes, free_node, free_place, free_clauses, free_entries, free_attributes}
 use Rattle.doc_model.specs.Environment.{Env, Component, Stream, bind, inside, binding, bindings, reading, find}
 use Rattle.doc_model.specs.Evaluation.{Res, then_do, on_res, eval_expr, printed, is_true}
-use Rattle.doc_model.specs.Printing.{escape_text, print_attribute, print_spread}
+use Rattle.text_core.specs.Escape.{escape_text}
+use Rattle.doc_model.specs.Printing.{print_attribute, print_spread}
 use Rattle.value_core.specs.declared.raise.Raise.TheVariants.{NoAssign, NoClause}
 use Rattle.diff_tree.specs.Tree.{tree, row}
 use Rattle.doc_model.specs.Trace.{Items, item, Item, met_text, met_branch, met_rows, met_call, met_slots, met_component, ItemRows, item_row, Slots, slot_of}

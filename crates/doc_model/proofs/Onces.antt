@@ -6,7 +6,8 @@ use Rattle.ast_core.specs.Syntax.{Expr, Attributes, no_attributes, written, valu
 use Rattle.ast_core.specs.Free.{one_of, free_names, free_place}
 use Rattle.doc_model.specs.Environment.{Component, Env, bind, reading}
 use Rattle.doc_model.specs.Evaluation.{Res, then_do, on_res, eval_expr, printed, is_true}
-use Rattle.doc_model.specs.Printing.{escape_text, print_attribute, print_spread}
+use Rattle.text_core.specs.Escape.{escape_text}
+use Rattle.doc_model.specs.Printing.{print_attribute, print_spread}
 use Rattle.diff_tree.specs.Container.{Row, after}
 use Rattle.doc_model.specs.Trace.{Items, item, Item, met_text, met_branch, met_rows, met_call, met_slots, met_component, met_stream, row_texts}
 use Rattle.doc_model.specs.Left.{Containers, Unused, UnusedNode, UnusedPlace, UnusedClauses, UnusedOthers, clause_at, Leaves, LeavesItem}

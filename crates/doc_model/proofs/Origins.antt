@@ -7,7 +7,8 @@ use Rattle.ast_core.specs.Syntax.{Place, put, attribute, spread, if_place, case_
 use Rattle.ast_core.specs.Free.{free_names, free_place}
 use Rattle.doc_model.specs.Environment.{Component, Env, binding, bindings, bind, inside, reading, find}
 use Rattle.doc_model.specs.Evaluation.{Res, then_do, on_res, eval_expr, printed, is_true}
-use Rattle.doc_model.specs.Printing.{escape_text, print_attribute, print_spread}
+use Rattle.text_core.specs.Escape.{escape_text}
+use Rattle.doc_model.specs.Printing.{print_attribute, print_spread}
 use Rattle.value_core.specs.declared.raise.Raise.TheVariants.{NoClause}
 use Rattle.doc_model.specs.Trace.{Items, item, Item, met_text, met_branch, met_rows, met_call, met_slots, met_component, met_stream, item_row, slot_of}
 use Rattle.doc_model.specs.Components.{Part, parts, parts_of, parts_of_rows, parts_of_slots, AllOf, Lives}

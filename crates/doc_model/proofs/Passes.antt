@@ -8,7 +8,8 @@ use Rattle.ast_core.specs.Syntax.{Name, Expr, Attributes, Body, Entries, Place, 
 use Rattle.ast_core.specs.Free.{free_names, free_pairs, free_entries, free_place}
 use Rattle.doc_model.specs.Environment.{Component, Env, binding, bindings, bind, inside, reading, find}
 use Rattle.doc_model.specs.Evaluation.{Res, then_do, both, on_res, eval_expr, printed, is_true, eval_pairs}
-use Rattle.doc_model.specs.Printing.{escape_text, print_attribute, print_spread}
+use Rattle.text_core.specs.Escape.{escape_text}
+use Rattle.doc_model.specs.Printing.{print_attribute, print_spread}
 use Rattle.value_core.specs.declared.raise.Raise.TheVariants.{NoClause, Duplicate, Range}
 use Rattle.doc_model.specs.Trace.{Items, no_items, item, met_text, met_nothing, met_branch, met_rows, met_call, met_slots, met_component, no_item_rows, item_row, no_slots, slot_of}
 use Rattle.doc_model.specs.Scopes.{Site, Captured, Chosen, chosen, callee, component_scope, component_of, or_none, id_of, slot_scope, row_scopes, slots_of}

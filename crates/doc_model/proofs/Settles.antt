@@ -6,7 +6,8 @@ use Rattle.ast_core.specs.Syntax.{Pattern, Expr, Pairs, Entries, Place, put, att
 use Rattle.ast_core.specs.Free.{free_names, free_pairs, free_entries, free_place}
 use Rattle.doc_model.specs.Environment.{Stream, Component, Env, binding, bindings, bind, inside, reading, find}
 use Rattle.doc_model.specs.Evaluation.{Res, then_do, both, on_res, eval_expr, printed, is_true, eval_pairs}
-use Rattle.doc_model.specs.Printing.{escape_text, print_attribute, print_spread}
+use Rattle.text_core.specs.Escape.{escape_text}
+use Rattle.doc_model.specs.Printing.{print_attribute, print_spread}
 use Rattle.diff_tree.specs.Container.{after, contents}
 use Rattle.value_core.specs.declared.raise.Raise.TheVariants.{NoClause, NoAssign}
 use Rattle.diff_tree.specs.Tree.{weave, flat}

@@ -5,7 +5,8 @@ use Rattle.ast_core.specs.Syntax.{Place, put, attribute, spread, if_place, case_
 use Rattle.ast_core.specs.Free.{free_names, free_place}
 use Rattle.doc_model.specs.Environment.{Env, binding, bind, reading}
 use Rattle.doc_model.specs.Evaluation.{Res, then_do, both, on_res, eval_expr, printed, is_true}
-use Rattle.doc_model.specs.Printing.{escape_text, print_attribute, print_spread}
+use Rattle.text_core.specs.Escape.{escape_text}
+use Rattle.doc_model.specs.Printing.{print_attribute, print_spread}
 use Rattle.diff_tree.specs.Container.{after, contents}
 use Rattle.value_core.specs.declared.raise.Raise.TheVariants.{NoClause}
 use Rattle.diff_tree.specs.Tree.{weave, flat}

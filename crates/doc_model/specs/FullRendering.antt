@@ -4,7 +4,8 @@ use Rattle.value_core.specs.Value.{Value}
 use Rattle.ast_core.specs.Syntax.{Attributes, no_attributes, written, valued, spread_of, module_of, Node, text_node, element, at_place, Place, put, attribute, spread, if_place, case_place, for_place, call, render_slot, live_call, stream_place, Nodes, no_nodes, node}
 use Rattle.doc_model.specs.Environment.{Env, binding, bind}
 use Rattle.doc_model.specs.Evaluation.{Res, then_do, both, on_res, eval_expr, printed, is_true}
-use Rattle.doc_model.specs.Printing.{escape_text, print_attribute, print_spread}
+use Rattle.text_core.specs.Escape.{escape_text}
+use Rattle.doc_model.specs.Printing.{print_attribute, print_spread}
 use Rattle.diff_tree.specs.Container.{after, contents}
 use Rattle.diff_tree.specs.Tree.{flat}
 use Rattle.value_core.specs.declared.raise.Raise.TheVariants.{Deep, NoClause}

@@ -4,6 +4,7 @@ pub mod Printing
 pub mod Calls
 pub mod Scopes
 pub mod FullRendering
+pub mod Mark
 pub mod Trace
 pub mod Tracing
 pub mod Whole

@@ -4,15 +4,7 @@ use Rattle.std.specs.Str.{bytes_eq}
 use Rattle.value_core.specs.Value.{Value, nil, boolean, list, map_of, Values, no_values, value, Assigns, no_assigns, assign}
 use Rattle.doc_model.specs.Evaluation.{Res, both, on_res, printed}
 use Rattle.value_core.specs.declared.raise.Raise.TheVariants.{BadArgument, NotPrintable}
-
-abbrev pub escape_byte : ℕ → List ℕ
-escape_byte c =
-    if c == 38 then codes "&amp;" else if c == 60 then codes "&lt;" else if c == 62 then codes "&gt;"
-    else if c == 34 then codes "&quot;" else if c == 39 then codes "&#39;" else c ∷ []
-
-abbrev pub escape_text : List ℕ → List ℕ
-escape_text [] = []
-escape_text (c ∷ cs) = escape_byte c ++ escape_text cs
+use Rattle.text_core.specs.Escape.{escape_text}
 
 abbrev pub with_spaces : List (List ℕ) → List ℕ
 with_spaces [] = []
@@ -47,7 +39,7 @@ print_attribute n v = on_res (equals n) (printed v)
 
 -- white space, quotes, braces, `<`, `>`, `/` and `=` stand in no attribute's name
 abbrev pub is_name_byte : ℕ → Bool
-is_name_byte c = not (c == 32 || c == 9 || c == 10 || c == 12 || c == 13 || c == 34 || c == 39 || c == 60 || c == 62 || c == 47 || c == 61 || c == 123 || c == 125)
+is_name_byte c = not (c == 32 || c == 9 || c == 10 || c == 13 || c == 34 || c == 39 || c == 60 || c == 62 || c == 47 || c == 61 || c == 123 || c == 125)
 
 abbrev pub all_name_bytes : List ℕ → Bool
 all_name_bytes [] = true

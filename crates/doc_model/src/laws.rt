@@ -1,6 +1,7 @@
 //! What the definitions keep: each law is the promise of a function that does nothing.
 
 ghost use Rattle.doc_model.specs.Laws.{HeldTreeShows, MergeLeanWhole, WholeTreeShows};
+ghost use Rattle.doc_model.specs.Mark.{MarkIsAtRoot};
 ghost use Rattle.doc_model.specs.Session.{FramesShow};
 
 /// The whole tree that is sent shows the full rendering, where all streams begin empty.
@@ -26,3 +27,10 @@ pub fn merge_lean_whole()
 pub fn frames_show()
     ensures { FramesShow }
 {}
+
+/// A component's mark on its text stands at its root element.
+#[tactic(auto, using(crate::proofs::Marks::mark_is_at_root))]
+pub fn mark_is_at_root()
+    ensures { MarkIsAtRoot }
+{
+}
