@@ -8,7 +8,7 @@ use Rattle.diff_tree.specs.Container.{at_end, no_limit, Batch, Row}
 use Rattle.doc_model.specs.Trace.{Items}
 use Rattle.doc_model.specs.Scopes.{Site}
 use Rattle.ast_core.specs.Places.{cut}
-use Rattle.diff_tree.specs.Client.{PageTree, merge_diff, show_tree}
+use Rattle.diff_tree.specs.Client.{PageTree, merge_parts, show_tree}
 use Rattle.doc_model.specs.Components.{whole_tree, lean_diff}
 use Rattle.doc_model.specs.Session.{opened_tree}
 use Rattle.doc_model.specs.Once.{left, left_to}
@@ -63,6 +63,6 @@ shown_first : on_res (λ p. page_text (Some (whole_tree (cut nodes) p.0))) first
 unfolding site here nodes views env first page_text one
 shown_first = refl
 
-shown_second : then_do first (λ p. on_res (λ q. page_text (merge_diff (opened_tree (whole_tree (cut nodes) p.0)) (lean_diff p.0 q.0))) (second p)) ≡ Ok (codes "c<ul><li id=\"k\">k</li><li id=\"l\">l</li></ul>\u{1}<b>c</b>")
+shown_second : then_do first (λ p. on_res (λ q. page_text (merge_parts (opened_tree (whole_tree (cut nodes) p.0)) (lean_diff p.0 q.0))) (second p)) ≡ Ok (codes "c<ul><li id=\"k\">k</li><li id=\"l\">l</li></ul>\u{1}<b>c</b>")
 unfolding site here nodes views env first second page_text one
 shown_second = refl

@@ -11,7 +11,7 @@ use Rattle.doc_model.specs.Lean.{lean_places, unless_empty}
 use Rattle.doc_model.specs.Holding.{Sees, SeesItem, SeesRows, SeesSlots, Holds, Fresh}
 use Rattle.doc_model.specs.Left.{Unused, Leaves, Based}
 use Rattle.doc_model.specs.Components.{Part, parts, parts_of, parts_of_rows, parts_of_slots, part_at, whole_tree, option_tree, lean_part, lean_parts, lean_diff, numbered, HoldsNode, HoldsOption, HoldsPart, HeldTree, AllOf, Distinct, depth, depth_of, depth_of_rows, depth_of_slots, Lives, Follows}
-use Rattle.diff_tree.specs.Client.{PageTree, changed, with_component, and_then, merge_components, merge_diff, look}
+use Rattle.diff_tree.specs.Client.{PageTree, changed, with_component, with_numbers, and_then, merge_components, merge_parts, look}
 use Rattle.doc_model.specs.Laws.{Gives, WholeTreeShows, HeldTreeShows, MergeLeanWhole}
 use Rattle.doc_model.specs.Scopes.{Site}
 use Rattle.doc_model.specs.Tracing.{trace}
@@ -210,7 +210,7 @@ module _ (mark : ℕ → List ℕ → List ℕ) where
       (λ g e. parts_merge old ps g d.1 (all_both (λ q. q.number ≡ p.number → ⊥) (Ready mark f old) (Ready mark g old) ps (λ q x y. ready_same f g old q (e q.number x) y) d.0 h.1))
 
   page_merges : (st : List (List ℕ)) (is is' : Items) (p : PageTree) → HeldTree mark st is p → Kept mark is is' → Good is' → Distinct (parts is') → AllOf (Ready mark p.component (parts is)) (parts is')
-      → Gives (HeldTree mark st is') (merge_diff p (lean_diff is is'))
+      → Gives (HeldTree mark st is') (merge_parts p (lean_diff is is'))
   page_merges st is is' p h k g d r = by_root (merge_change p.root (inner (lean_places is is'))) root
     where
       by_trees : (o : Option Trees) → Gives (λ us. Holds mark us is') o → Gives (HoldsNode mark st is') (option_map (node st) o)
@@ -221,11 +221,11 @@ module _ (mark : ℕ → List ℕ → List ℕ) where
       root = subst (λ u. Gives (HoldsNode mark st is') (merge_change u (inner (lean_places is is')))) (sym h.0.1) (by_trees (merge_changes h.0.0 (lean_places is is')) (lean_merges mark h.0.0 is is' h.0.2 k g))
 
       by_root : (o : Option Tree) → Gives (HoldsNode mark st is') o
-          → Gives (HeldTree mark st is') (and_then o (λ t. and_then (merge_components p.component (lean_parts (parts is) (parts is'))) (λ f. Some (record { root = t; component = f }))))
+          → Gives (HeldTree mark st is') (and_then o (λ t. and_then (merge_components p.component (lean_parts (parts is) (parts is'))) (λ f. Some (record { root = t; numbers = with_numbers (lean_parts (parts is) (parts is')) p.numbers; component = f }))))
       by_root None q = absurd q
       by_root (Some t) q = by_parts (merge_components p.component (lean_parts (parts is) (parts is'))) (parts_merge (parts is) (parts is') p.component d r)
         where
-          by_parts : (o : Option (ℕ → Option Tree)) → Gives (Merged p.component (parts is')) o → Gives (HeldTree mark st is') (and_then o (λ f. Some (record { root = t; component = f })))
+          by_parts : (o : Option (ℕ → Option Tree)) → Gives (Merged p.component (parts is')) o → Gives (HeldTree mark st is') (and_then o (λ f. Some (record { root = t; numbers = with_numbers (lean_parts (parts is) (parts is')) p.numbers; component = f })))
           by_parts (Some f) x = (q, x.0)
           by_parts None x = absurd x
 

@@ -15,7 +15,8 @@ use Rattle.doc_model.specs.Trace.{Items, no_items, item, met_text, met_nothing, 
 use Rattle.doc_model.specs.Scopes.{Site, Captured, Chosen, chosen, callee, component_scope, component_of, or_none, id_of, slot_scope, row_scopes, slots_of}
 use Rattle.ast_core.specs.Places.{cut, places_in}
 use Rattle.doc_model.specs.Tracing.{trace, trace_places, trace_place, trace_rows, trace_slot, trace_slots, trace_else}
-use Rattle.doc_model.specs.Walk.{Owner, Views, Walk, component_with, owner_of, among, with_changed, Step, plainly, and_so, giving, in_turn, begin, go_on, reach_found, reach, Onward, pass_rows, pass_slot, pass_slots, pass_else, pass_place, pass_places, pass, swept, at_end_of_walk, in_state, OnePass}
+use Rattle.diff_tree.specs.Client.{among}
+use Rattle.doc_model.specs.Walk.{Owner, Views, Walk, component_with, owner_of, with_changed, Step, plainly, and_so, giving, in_turn, begin, go_on, reach_found, reach, Onward, pass_rows, pass_slot, pass_slots, pass_else, pass_place, pass_places, pass, swept, at_end_of_walk, in_state, OnePass}
 use Rattle.doc_model.proofs.Results.{On}
 use Rattle.doc_model.proofs.Sames.{both_true, same_sound, same_refl}
 use Rattle.doc_model.proofs.Names.{Agree, agree_same, agree_reading, eval_agrees}

@@ -9,7 +9,7 @@ use Rattle.doc_model.specs.Scopes.{Site}
 use Rattle.doc_model.specs.FullRendering.{full_render}
 use Rattle.ast_core.specs.Places.{cut}
 use Rattle.doc_model.specs.Components.{Part, HoldsOption, HoldsPart, HeldTree, parts, part_at, depth, whole_tree, option_tree, lean_diff}
-use Rattle.diff_tree.specs.Client.{PageTree, show_tree, merge_diff, and_then}
+use Rattle.diff_tree.specs.Client.{PageTree, show_tree, merge_parts, and_then}
 use Rattle.doc_model.specs.Laws.{Gives}
 use Rattle.doc_model.specs.Session.{Rendering, IsRendering, Begins, GoesOn, latest, opened_tree, merged, FramesShow}
 use Rattle.doc_model.proofs.Wholes.{Good}
@@ -37,7 +37,7 @@ Shown site ns r p = HeldTree site.mark (cut ns) r.items p × ((n : ℕ) → dept
 goes_on : (site : Site) (ns : Nodes) (r : Rendering) (qs : List Rendering) (p : PageTree) → IsRendering site ns r → GoesOn site ns r qs → HeldTree site.mark (cut ns) r.items p → Gives (Shown site ns (latest r qs)) (merged p r qs)
 goes_on site ns r [] p i g h = (h, λ n d. page_shows site r.level r.env ns r.items p i.0 h n d)
 goes_on site ns r (q ∷ qs) p i g h =
-    by_page (merge_diff p (lean_diff r.items q.items)) (lean_page_merges site r.level q.level r.env q.env ns r.items q.items p i.0 g.0.0 g.1 g.0.1 h) (λ p' x. goes_on site ns q qs p' g.0 g.2 x)
+    by_page (merge_parts p (lean_diff r.items q.items)) (lean_page_merges site r.level q.level r.env q.env ns r.items q.items p i.0 g.0.0 g.1 g.0.1 h) (λ p' x. goes_on site ns q qs p' g.0 g.2 x)
   where
     by_page : (o : Option PageTree) → Gives (HeldTree site.mark (cut ns) q.items) o → ((p' : PageTree) → HeldTree site.mark (cut ns) q.items p' → Gives (Shown site ns (latest q qs)) (merged p' q qs)) → Gives (Shown site ns (latest q qs)) (and_then o (λ p'. merged p' q qs))
     by_page (Some p') x k = k p' x

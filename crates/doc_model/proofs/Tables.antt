@@ -13,7 +13,8 @@ use Rattle.doc_model.specs.Left.{Containers, Based}
 use Rattle.doc_model.specs.Components.{Part, parts, part_at, AllOf, Lives, Distinct, Follows}
 use Rattle.doc_model.specs.Scopes.{Site, id_of}
 use Rattle.doc_model.specs.Tracing.{trace}
-use Rattle.doc_model.specs.Walk.{Owner, Views, Walk, component_with, owner_of, among, with_changed, begin, go_on, reach_found, reach, pass, swept, at_end_of_walk, in_state, render_state}
+use Rattle.diff_tree.specs.Client.{among}
+use Rattle.doc_model.specs.Walk.{Owner, Views, Walk, component_with, owner_of, with_changed, begin, go_on, reach_found, reach, pass, swept, at_end_of_walk, in_state, render_state}
 use Rattle.doc_model.specs.Table.{IsTable, WasThere, IsNew, Honest, SettledAs, LeftBehind, NextFollows}
 use Rattle.doc_model.proofs.Results.{On}
 use Rattle.doc_model.proofs.Sames.{both_true, same_sound}

@@ -50,9 +50,13 @@ abbrev pub option_tree : Option Part → Option Tree
 option_tree None = None
 option_tree (Some p) = Some (node p.statics (whole_places p.items))
 
+abbrev pub part_numbers : List Part → List ℕ
+part_numbers [] = []
+part_numbers (p ∷ ps) = p.number ∷ part_numbers ps
+
 -- the whole page that is sent
 abbrev pub whole_tree : List (List ℕ) → Items → PageTree
-whole_tree st is = record { root = node st (whole_places is); component = λ n. option_tree (part_at n (parts is)) }
+whole_tree st is = record { root = node st (whole_places is); numbers = part_numbers (parts is); component = λ n. option_tree (part_at n (parts is)) }
 
 -- a component that was there before is changed, a new one is whole
 abbrev pub lean_part : Option Part → Part → Option Change

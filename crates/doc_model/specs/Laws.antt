@@ -8,7 +8,7 @@ use Rattle.doc_model.specs.Scopes.{Site}
 use Rattle.doc_model.specs.FullRendering.{full_render}
 use Rattle.doc_model.specs.Tracing.{trace}
 use Rattle.ast_core.specs.Places.{cut}
-use Rattle.diff_tree.specs.Client.{PageTree, show_tree, merge_diff}
+use Rattle.diff_tree.specs.Client.{PageTree, show_tree, merge_parts}
 use Rattle.doc_model.specs.Components.{HeldTree, Distinct, AllOf, parts, depth, whole_tree, lean_diff, Follows}
 
 abbrev pub Gives : {A : Type 0} → (A → Type 0) → Option A → Type 0
@@ -30,4 +30,4 @@ HeldTreeShows = (site : Site) (k : ℕ) (env : Env) (ns : Nodes) (is : Items) (p
 abbrev pub MergeLeanWhole : Type 0
 MergeLeanWhole = (site : Site) (k l : ℕ) (a b : Env) (ns : Nodes) (is is' : Items) (p : PageTree) → trace site k a ns ≡ Ok is → trace site l b ns ≡ Ok is'
     → Follows site ns a b is → Distinct (parts is') → HeldTree site.mark (cut ns) is p
-    → Gives (HeldTree site.mark (cut ns) is') (merge_diff p (lean_diff is is'))
+    → Gives (HeldTree site.mark (cut ns) is') (merge_parts p (lean_diff is is'))

@@ -9,7 +9,7 @@ use Rattle.doc_model.specs.Scopes.{Site}
 use Rattle.doc_model.specs.FullRendering.{full_render}
 use Rattle.doc_model.specs.Tracing.{trace}
 use Rattle.ast_core.specs.Places.{cut}
-use Rattle.diff_tree.specs.Client.{PageTree, show_tree, merge_diff, and_then}
+use Rattle.diff_tree.specs.Client.{PageTree, show_tree, merge_parts, and_then}
 use Rattle.doc_model.specs.Components.{HeldTree, Distinct, AllOf, parts, depth, whole_tree, lean_diff, Follows}
 use Rattle.doc_model.specs.Laws.{Gives}
 
@@ -34,12 +34,12 @@ latest r [] = r
 latest r (q ∷ qs) = latest q qs
 
 abbrev pub opened_tree : PageTree → PageTree
-opened_tree p = record { root = opened p.root; component = λ n. option_map opened (p.component n) }
+opened_tree p = record { root = opened p.root; numbers = p.numbers; component = λ n. option_map opened (p.component n) }
 
 -- the frames, merged
 abbrev pub merged : PageTree → Rendering → List Rendering → Option PageTree
 merged p r [] = Some p
-merged p r (q ∷ qs) = and_then (merge_diff p (lean_diff r.items q.items)) (λ p'. merged p' q qs)
+merged p r (q ∷ qs) = and_then (merge_parts p (lean_diff r.items q.items)) (λ p'. merged p' q qs)
 
 -- the frames since a join merge without an undefined case, the result is whole, and it shows the page of the latest state
 abbrev pub FramesShow : Type 0

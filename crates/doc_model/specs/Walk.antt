@@ -12,6 +12,7 @@ use Rattle.doc_model.specs.Scopes.{Site, Captured, chosen, callee, component_sco
 use Rattle.ast_core.specs.Places.{cut, places_in}
 use Rattle.doc_model.specs.Tracing.{trace, trace_place}
 use Rattle.doc_model.specs.Calls.{items_of, call_assigns, live_assigns, module_in}
+use Rattle.diff_tree.specs.Client.{among}
 
 -- what handlers of a component change
 pub record Owner : Type 0 where
@@ -37,10 +38,6 @@ owner_of c = record { assigns = c.assigns; streams = c.streams }
 
 abbrev pub component_with : ℕ → List ℕ → Value → Assigns → Owner → Component
 component_with n m i as' o = record { number = n; module_name = m; id = i; passed = as'; assigns = o.assigns; streams = o.streams }
-
-abbrev pub among : ℕ → List ℕ → Bool
-among n [] = false
-among n (m ∷ ms) = if n == m then true else among n ms
 
 -- the component of a module and an id, changed
 abbrev pub with_changed : List ℕ → Value → Component → List Component → List Component
