@@ -111,6 +111,10 @@ merge_diff k p d = and_then (merge_parts p d) (judged k)
 abbrev pub MergeDefined : PageTree → PageDiff → Type 0
 MergeDefined p d = (k : ℕ) × (q : PageTree) × (merge_diff k p d ≡ Some q)
 
+-- a page as a client takes it
+abbrev pub opened_tree : PageTree → PageTree
+opened_tree p = record { root = opened p.root; numbers = p.numbers; component = λ n. elim (p.component n) [ None ↦ None | Some t ↦ Some (opened t) ] }
+
 -- what a component shows, through so many components
 module _ (mark : ℕ → List ℕ → List ℕ) where
   abbrev mutual

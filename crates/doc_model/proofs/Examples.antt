@@ -10,7 +10,7 @@ use Rattle.doc_model.specs.Scopes.{Site}
 use Rattle.ast_core.specs.Places.{cut}
 use Rattle.diff_tree.specs.Client.{PageTree, merge_parts, show_tree}
 use Rattle.doc_model.specs.Components.{whole_tree, lean_diff}
-use Rattle.doc_model.specs.Session.{opened_tree}
+use Rattle.diff_tree.specs.Client.{opened_tree}
 use Rattle.doc_model.specs.Once.{left, left_to}
 use Rattle.doc_model.specs.Run.{settled_components}
 use Rattle.doc_model.specs.Walk.{Views, Walk, render_state}

@@ -14,7 +14,8 @@ use Rattle.diff_tree.specs.Client.{show_tree}
 use Rattle.doc_model.specs.Scopes.{Site}
 use Rattle.doc_model.specs.FullRendering.{full_render}
 use Rattle.doc_model.specs.Tracing.{trace}
-use Rattle.doc_model.specs.Session.{Begins, GoesOn, latest, merged, opened_tree}
+use Rattle.diff_tree.specs.Client.{opened_tree}
+use Rattle.doc_model.specs.Session.{Begins, GoesOn, latest, merged}
 use Rattle.doc_model.specs.Table.{IsTable, WasThere, IsNew, Honest}
 use Rattle.doc_model.specs.Walk.{Views, Walk, in_state, render_state}
 use Rattle.doc_model.specs.Run.{Turn, Renders, Joins, Turns, rendering_of, renderings_of, SessionShows}

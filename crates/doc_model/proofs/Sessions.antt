@@ -11,7 +11,8 @@ use Rattle.ast_core.specs.Places.{cut}
 use Rattle.doc_model.specs.Components.{Part, HoldsOption, HoldsPart, HeldTree, parts, part_at, depth, whole_tree, option_tree, lean_diff}
 use Rattle.diff_tree.specs.Client.{PageTree, show_tree, merge_parts, and_then}
 use Rattle.doc_model.specs.Laws.{Gives}
-use Rattle.doc_model.specs.Session.{Rendering, IsRendering, Begins, GoesOn, latest, opened_tree, merged, FramesShow}
+use Rattle.diff_tree.specs.Client.{opened_tree}
+use Rattle.doc_model.specs.Session.{Rendering, IsRendering, Begins, GoesOn, latest, merged, FramesShow}
 use Rattle.doc_model.proofs.Wholes.{Good}
 use Rattle.doc_model.proofs.Merges.{opened_holds}
 use Rattle.doc_model.proofs.Origins.{all_both}

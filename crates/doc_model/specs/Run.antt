@@ -12,7 +12,8 @@ use Rattle.doc_model.specs.Laws.{Gives}
 use Rattle.doc_model.specs.Scopes.{Site}
 use Rattle.doc_model.specs.FullRendering.{full_render}
 use Rattle.doc_model.specs.Tracing.{trace}
-use Rattle.doc_model.specs.Session.{Rendering, latest, opened_tree, merged}
+use Rattle.diff_tree.specs.Client.{opened_tree}
+use Rattle.doc_model.specs.Session.{Rendering, latest, merged}
 use Rattle.doc_model.specs.Table.{IsTable, Honest, SettledAs}
 use Rattle.doc_model.specs.Walk.{Views, Walk, in_state, render_state}
 

@@ -9,7 +9,7 @@ use Rattle.doc_model.specs.Scopes.{Site}
 use Rattle.doc_model.specs.FullRendering.{full_render}
 use Rattle.doc_model.specs.Tracing.{trace}
 use Rattle.ast_core.specs.Places.{cut}
-use Rattle.diff_tree.specs.Client.{PageTree, show_tree, merge_parts, and_then}
+use Rattle.diff_tree.specs.Client.{opened_tree, PageTree, show_tree, merge_parts, and_then}
 use Rattle.doc_model.specs.Components.{HeldTree, Distinct, AllOf, parts, depth, whole_tree, lean_diff, Follows}
 use Rattle.doc_model.specs.Laws.{Gives}
 
@@ -32,9 +32,6 @@ GoesOn site ns r (q ∷ qs) = IsRendering site ns q × Follows site ns r.env q.e
 abbrev pub latest : Rendering → List Rendering → Rendering
 latest r [] = r
 latest r (q ∷ qs) = latest q qs
-
-abbrev pub opened_tree : PageTree → PageTree
-opened_tree p = record { root = opened p.root; numbers = p.numbers; component = λ n. option_map opened (p.component n) }
 
 -- the frames, merged
 abbrev pub merged : PageTree → Rendering → List Rendering → Option PageTree
