@@ -47,7 +47,7 @@ with_numbers (c ∷ cs) ns = with_numbers cs (with_number c.0 ns)
 abbrev pub merge_parts : PageTree → PageDiff → Option PageTree
 merge_parts p d =
     and_then (merge_change p.root (inner d.root))
-        (λ t. and_then (merge_components p.component d.components) (λ f. Some (record { root = t; numbers = with_numbers d.components p.numbers; component = f })))
+    (λ t. and_then (merge_components p.component d.components) (λ f. Some (record { root = t; numbers = with_numbers d.components p.numbers; component = f })))
 
 -- the numbers of components that stand in a tree, rows included
 abbrev mutual

@@ -55,7 +55,7 @@ entries_spaced : (as' : Assigns) → On Spaced (entry_texts as')
 entries_spaced no_assigns = tt
 entries_spaced (assign k v as') =
     on_both Spaced Spaced Spaced (λ t u. t ++ u) (if is_attribute_name k then print_attribute k v else Err BadArgument) (entry_texts as') spaced_append
-        (by_name (is_attribute_name k)) (entries_spaced as')
+    (by_name (is_attribute_name k)) (entries_spaced as')
   where
     by_name : (b : Bool) → On Spaced (if b then print_attribute k v else Err BadArgument)
     by_name true = attribute_spaced k v
@@ -88,10 +88,10 @@ module _ (site : Site) (go : Deeper (List ℕ)) (env : Env) where
       weaker (Err e) h = tt
   attributes_spaced (valued n e xs) =
       on_both Spaced Spaced Spaced (λ a b. a ++ b) (full_place site go env (attribute n e)) (full_attributes site go env xs) spaced_append
-          (on_bind Spaced (eval_expr env e) (print_attribute n) (attribute_spaced n)) (attributes_spaced xs)
+      (on_bind Spaced (eval_expr env e) (print_attribute n) (attribute_spaced n)) (attributes_spaced xs)
   attributes_spaced (spread_of e xs) =
       on_both Spaced Spaced Spaced (λ a b. a ++ b) (full_place site go env (spread e)) (full_attributes site go env xs) spaced_append
-          (on_bind Spaced (eval_expr env e) print_spread spread_spaced) (attributes_spaced xs)
+      (on_bind Spaced (eval_expr env e) print_spread spread_spaced) (attributes_spaced xs)
   attributes_spaced (module_of m xs) = attributes_spaced xs
 
 -- a text that ends a name

@@ -13,8 +13,13 @@ pub mod Holding
 pub mod Left
 pub mod Components
 pub mod Walk
+pub mod Json
+pub mod Effects
 pub mod Once
 pub mod Table
 pub mod Session
 pub mod Run
 pub mod Laws
+pub mod Message
+pub mod Process
+pub mod Journal

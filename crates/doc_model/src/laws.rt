@@ -32,5 +32,4 @@ pub fn frames_show()
 #[tactic(auto, using(crate::proofs::Marks::mark_is_at_root))]
 pub fn mark_is_at_root()
     ensures { MarkIsAtRoot }
-{
-}
+{}
