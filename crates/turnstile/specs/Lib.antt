@@ -1,0 +1,4 @@
+pub mod Rules
+pub mod Steps
+pub mod Known
+pub mod Seats
