@@ -1,5 +1,5 @@
 -- What a post adds.
-use Rattle.std.specs.Prelude.{◌≡◌, ℕ, List, [], ◌∷◌, Some, slice_get}
+use Rattle.std.specs.Prelude.{◌≡◌, ℕ, [], ◌∷◌, Some, slice_get}
 use Rattle.turnstile.specs.Known.{Known}
 use Rattle.turnstile.specs.Steps.{add_made}
 

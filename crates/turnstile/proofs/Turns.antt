@@ -1,11 +1,10 @@
 -- What the steps of one call give together.
-use Rattle.std.proofs.Common.{◌≡◌, ◌≢◌, ℕ, ◌%◌, Bool, true, false, eqb, List, [], ◌∷◌, ◌++◌, Option, Some, None, MatchBool, Result, Ok, Err, MatchResult, sym, refl, ap, ◌∙◌, subst, eq-eqb, ne_eqb, inl, inr}
+use Rattle.std.proofs.Common.{◌≡◌, ◌≢◌, ℕ, ◌%◌, Bool, List, [], ◌∷◌, ◌++◌, Option, MatchBool, Result, Ok, Err, MatchResult, sym, ap, ◌∙◌, subst, eq-eqb, ne_eqb, inl, inr}
 use Rattle.std.proofs.lemmas.List.{append-nil}
 use mathlib.Core.Option.{none}
 use Rattle.atomic_table.specs.Table.{Me, Step, step, rest}
 use Rattle.turnstile.specs.declared.view.View.{View}
-use Rattle.turnstile.specs.declared.view.Stage.{Stage}
-use Rattle.turnstile.specs.declared.view.Stage.TheVariants.{Away, Waiting, Inside}
+use Rattle.turnstile.specs.declared.view.Stage.TheVariants.{Waiting}
 use Rattle.turnstile.specs.Rules.{turn, Made, StartsWith}
 use Rattle.turnstile.specs.Steps.{LooksServed, staged, Enters, add_made, IsFirst, Follows, under}
 

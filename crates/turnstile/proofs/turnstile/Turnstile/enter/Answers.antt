@@ -1,4 +1,4 @@
-use Rattle.std.proofs.Common.{rules, arith, ◌≡◌, ℕ, List, ◌∷◌, ◌++◌, ◌∙◌, ap, sym, subst, refl, Some, None}
+use Rattle.std.proofs.Common.{arith, ◌≡◌, ◌∷◌, ◌∙◌, ap, sym, subst, refl, Some}
 use Rattle.turnstile.specs.Known.{Gate, Known}
 use Rattle.turnstile.specs.Seats.{inside}
 use Rattle.turnstile.proofs.Keeps.{draws, looks}

@@ -1,5 +1,4 @@
-use Rattle.std.proofs.Common.{rules, arith, ◌≡◌, ℕ, List, [], ◌∷◌, ◌++◌, ◌∙◌, ap, sym, subst, refl, Some, None}
-use Rattle.turnstile.specs.Known.{Known}
+use Rattle.std.proofs.Common.{arith}
 use Rattle.turnstile.proofs.Keeps.{unites}
 use Rattle.turnstile.proofs.Rests.{rests, sound_rest, joins_rest}
 use Rattle.turnstile.proofs.turnstile.Turnstile.join.Goals as goal

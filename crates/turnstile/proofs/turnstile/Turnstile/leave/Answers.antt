@@ -1,10 +1,10 @@
-use Rattle.std.proofs.Common.{rules, arith, ◌≡◌, ℕ, List, [], ◌∷◌, ◌++◌, ◌∙◌, ap, sym, subst, refl, Some, None}
+use Rattle.std.proofs.Common.{arith, ◌∷◌, ◌++◌, ◌∙◌, ap, sym, Some, None}
 use Rattle.turnstile.specs.Steps.{under, news, add_made}
 use Rattle.turnstile.specs.Known.{Gate, Known}
 use Rattle.turnstile.specs.Seats.{inside}
 use Rattle.turnstile.proofs.Rests.{within, sound_rest}
 use Rattle.turnstile.proofs.Keeps.{departs}
-use Rattle.turnstile.proofs.Turns.{read_is, rest_of, added_first, followed, follows_along}
+use Rattle.turnstile.proofs.Turns.{rest_of, added_first, followed, follows_along}
 use Rattle.turnstile.proofs.turnstile.Turnstile.leave.Goals as goal
 
 pub exchange-before-requires : goal.exchange-before-requires

@@ -1,7 +1,6 @@
-use Rattle.std.proofs.Common.{rules, arith, ◌≡◌, ℕ, List, [], ◌∷◌, ◌++◌, ◌∙◌, ap, sym, subst, refl, Some, None}
+use Rattle.std.proofs.Common.{arith, ◌∙◌, ap, sym}
 use Rattle.turnstile.specs.Known.{Gate, Known}
 use Rattle.turnstile.proofs.Keeps.{counts, numbers, halves}
-use Rattle.turnstile.proofs.Rests.{rests}
 use Rattle.turnstile.proofs.turnstile.Turnstile.split.Goals as goal
 
 pub load-requires : goal.load-requires
