@@ -9,7 +9,7 @@ ghost use Rattle.machine_api.specs.Steps.{Posts, Handles, PutsDown};
 use crate::logged::Logged;
 use std::alloc::Global;
 use std::sync::Arc;
-use text_core::{Bytes, OutOfMemory, Seq};
+use text_core::{Bytes, Frames, OutOfMemory, Seq};
 
 /// Why a message was not put into the inbox.
 #[derive(Debug, Drop)]
@@ -95,7 +95,8 @@ pub trait Machine: Logged + Send + Drop + Sized {
     /// Puts a text into the inbox, under the number. Answers the place of its entry.
     fn hear(&mut self, by: u32, text: &[u8]) -> Result<u64, PostFault>
         ensures basis { Self.basis self.new ≡ Self.basis self.old }
-        ensures posts { Posts by (heard text.now) (64 + length text.now) (inbox (Self.basis self.old) (Self.journal self.old))
+        ensures posts { Posts by (heard text.now) (64 + length text.now)
+            (inbox (Self.basis self.old) (Self.journal self.old))
             (journal_size texts frames (Self.journal self.old)) (Self.journal self.old) result (Self.journal self.new) };
 
     /// Puts a mail into the inbox, under the number. Answers the place of its entry.
@@ -107,22 +108,25 @@ pub trait Machine: Logged + Send + Drop + Sized {
         value: &[u8],
     ) -> Result<u64, PostFault>
         ensures basis { Self.basis self.new ≡ Self.basis self.old }
-        ensures posts { Posts by (mailed topic.now generation value.now) (64 + length topic.now + length value.now) (inbox (Self.basis self.old) (Self.journal self.old))
+        ensures posts { Posts by (mailed topic.now generation value.now)
+            (64 + length topic.now + length value.now) (inbox (Self.basis self.old) (Self.journal self.old))
             (journal_size texts frames (Self.journal self.old)) (Self.journal self.old) result (Self.journal self.new) };
 
     /// Handles the next message.
     fn handle(&mut self, by: u32) -> Handled
         ensures basis { Self.basis self.new ≡ Self.basis self.old }
-        ensures handles { Handles is_handled is_fell by (inbox (Self.basis self.old) (Self.journal self.old)) (raised (Self.basis self.old)) (asked (Self.basis self.old))
+        ensures handles { Handles is_handled is_fell by (inbox (Self.basis self.old) (Self.journal self.old))
+            (raised (Self.basis self.old)) (asked (Self.basis self.old))
             (Self.journal self.old) result (Self.journal self.new) };
 
     /// Puts the process down, if it is up.
     fn put_down(&mut self, by: u32, why: Down)
         ensures basis { Self.basis self.new ≡ Self.basis self.old }
-        ensures puts_down { PutsDown (is_overrun why) by (is_up_after (Self.basis self.old) (Self.journal self.old)) (Self.journal self.old) (Self.journal self.new) };
+        ensures puts_down { PutsDown (is_overrun why) by (is_up_after (Self.basis self.old) (Self.journal self.old))
+            (Self.journal self.old) (Self.journal self.new) };
 
     /// The frames of the journal from this number on, the first being 0.
-    fn frames_from(&self, alloc: Global, from: u64) -> Result<Seq<Bytes>, OutOfMemory>
+    fn frames_from(&self, alloc: Global, from: u64) -> Result<Frames, OutOfMemory>
         ensures { IfOk result (λ found. found ≡ drop from (frames_in frames (Self.journal self.now))) };
 
     /// How many messages wait.

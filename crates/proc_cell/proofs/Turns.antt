@@ -6,7 +6,7 @@ use Rattle.std.specs.List.{slice_get}
 use Rattle.machine_api.specs.declared.machine.PostFault.{PostFault}
 use Rattle.machine_api.specs.Steps.{Posts}
 use Rattle.turnstile.specs.Known.{Known}
-use Rattle.turnstile.specs.Steps.{news, add_made}
+use Rattle.turnstile.specs.Histories.{news, add_made}
 use Rattle.turnstile.proofs.Lists.{news-under}
 use Rattle.proc_cell.specs.Posted.{AddsEntry}
 

@@ -12,7 +12,7 @@ use std::alloc::{AllocError, Global};
 use std::sync::{Arc, Wait};
 use std::test::Fail;
 use std::thread::{Threads, join};
-use text_core::{Bytes, OutOfMemory, Seq};
+use text_core::{Frames, OutOfMemory};
 use turnstile::{Pass, Turn, Turnstile};
 
 // Posts a text. What the pass then finds has its entry.

@@ -13,9 +13,10 @@ use Rattle.atomic_table.proofs.Lists.{set_here, set_else, at_longer, one_turn}
 use Rattle.turnstile.specs.declared.view.View.{View}
 use Rattle.turnstile.specs.declared.view.Stage.{Stage}
 use Rattle.turnstile.specs.declared.view.Stage.TheVariants.{Away, Waiting, Inside, Filling}
-use Rattle.turnstile.specs.Rules.{most_passes, turn, total, StartsWith, entries_by, Made, tickets, Queued, IsInside, taken_by, stopped, founder, waits, claims, stops, PassHolds, Placed, Vacant, Orderly}
-use Rattle.turnstile.specs.Steps.{under, news, add_made, IsFirst, longer, alone, staged, entered, left_with, knows, kept_half, new_half, joined, spent, DrawsTicket, ChecksPassCount, DrawsPassNumber, LooksServed, BringsFirst, Enters, MayLeave, ServesNext}
-use Rattle.turnstile.proofs.Lists.{total_set, total_snoc, total_le, each_set, at_snoc_where, at_below, put, put_here, put_else, starts_more, nil_of_append, entries_by-append, entries_by-under, entries_by-under_other, news-under, made_append}
+use Rattle.turnstile.specs.Histories.{most_passes, StartsWith, entries_by, Made, news, add_made, IsFirst, longer}
+use Rattle.turnstile.specs.Rules.{turn, total, tickets, Queued, IsInside, taken_by, stopped, founder, waits, claims, stops, PassHolds, Placed, Vacant, Orderly}
+use Rattle.turnstile.specs.Steps.{alone, staged, entered, left_with, knows, kept_half, new_half, joined, spent, DrawsTicket, ChecksPassCount, DrawsPassNumber, LooksServed, BringsFirst, Enters, ServesNext}
+use Rattle.turnstile.proofs.Lists.{under, total_set, total_snoc, total_le, each_set, at_snoc_where, at_below, put, put_here, put_else, starts_more, nil_of_append, entries_by-append, entries_by-under, entries_by-under_other, news-under, made_append}
 
 abbrev ticket_or_0 : Stage → ℕ
 ticket_or_0 Away = 0
@@ -93,6 +94,19 @@ module _ {E : Type 0} where
       let o = own n fs (subst (λ (l : List (ℕ × List E)). Made l n fs) (sym is) (inr h)) in
       let ne : number ≢ n = (λ e. once number es ms is fs (subst (λ (x : ℕ). Made ms x fs) (sym e) h)) in
       (o.0, o.1, ap (entries_by n) grows ∙ (entries_by-append n log (under number more) ∙ (ap (λ (l : List E). entries_by n log ++ l) (entries_by-under_other n number more ne) ∙ (append-nil (entries_by n log) ∙ o.2))))
+
+module _ {K E G : Type 0} (journal : K → List (ℕ × E)) (basis : K → G) (lawful : G → List (ℕ × E) → Type 0) where
+  -- the seat had a value with more entries under its number
+  pub record MayLeave (k : K) (more : List E) (m : Me (Option K) (View E G)) : Type 0 where
+    pub ticket : ℕ
+    pub inside : m.0.stage ≡ Inside ticket
+    pub holds : m.1 ≡ (0, Some k) ∷ []
+    pub number : ℕ
+    pub first : IsFirst number m.0.made
+    pub journal_is : journal k ≡ m.0.seen ++ under number more
+    pub spare : m.0.spare ≡ None
+    pub basis_is : m.0.basis ≡ Some (basis k)
+    pub lawful_is : lawful (basis k) (journal k)
 
 module _ {K E G : Type 0} (journal : K → List (ℕ × E)) (basis : K → G) (lawful : G → List (ℕ × E) → Type 0) (on : G) where
   abbrev V : Type 0

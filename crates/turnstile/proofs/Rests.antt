@@ -6,7 +6,8 @@ use Rattle.atomic_table.specs.declared.shared.Seat.{Seat}
 use Rattle.turnstile.specs.declared.view.View.{View}
 use Rattle.turnstile.specs.declared.view.Stage.{Stage}
 use Rattle.turnstile.specs.declared.view.Stage.TheVariants.{Away, Waiting, Inside, Filling}
-use Rattle.turnstile.specs.Steps.{IsFirst, longer, joined, staged, Enters}
+use Rattle.turnstile.specs.Histories.{IsFirst, longer}
+use Rattle.turnstile.specs.Steps.{joined, staged, Enters}
 use Rattle.turnstile.specs.Known.{Gate, Known, IsPassOf, IsEntered}
 use Rattle.turnstile.specs.Seats.{inside, Holds, known_of, Sound}
 

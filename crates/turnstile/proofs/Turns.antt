@@ -5,8 +5,10 @@ use mathlib.Core.Option.{none}
 use Rattle.atomic_table.specs.Table.{Me, Step, step, rest}
 use Rattle.turnstile.specs.declared.view.View.{View}
 use Rattle.turnstile.specs.declared.view.Stage.TheVariants.{Waiting}
-use Rattle.turnstile.specs.Rules.{turn, Made, StartsWith}
-use Rattle.turnstile.specs.Steps.{LooksServed, staged, Enters, add_made, IsFirst, Follows, under}
+use Rattle.turnstile.specs.Histories.{Made, StartsWith, add_made, IsFirst, Follows}
+use Rattle.turnstile.specs.Rules.{turn}
+use Rattle.turnstile.specs.Steps.{LooksServed, staged, Enters}
+use Rattle.turnstile.proofs.Lists.{under}
 
 module _ {K E G : Type 0} (journal : K → List (ℕ × E)) (basis : K → G) (lawful : G → List (ℕ × E) → Type 0) where
   abbrev nothing : Step (Option K)

@@ -1,8 +1,7 @@
 -- What contracts see of a turnstile and of a pass.
 use Rattle.std.specs.Prelude.{◌≡◌, ℕ, Bool, true, false, List, [], ◌∷◌, Option, Some}
 use Rattle.atomic_table.specs.Seated.{TableId}
-use Rattle.turnstile.specs.Rules.{StartsWith, Made, entries_by}
-use Rattle.turnstile.specs.Steps.{IsFirst, news, add_made}
+use Rattle.turnstile.specs.Histories.{StartsWith, Made, entries_by, IsFirst, news, add_made}
 
 -- which lock it is, and what the value under it stands on
 pub record Gate (G : Type 0) : Type 0 where

@@ -1,4 +1,5 @@
-pub mod Rules
-pub mod Steps
+pub mod Histories
 pub mod Known
+pub mod Rules
 pub mod Seats
+pub mod Steps

@@ -4,7 +4,7 @@ use Rattle.atomic_table.specs.declared.shared.Seat.{Seat}
 use Rattle.turnstile.specs.declared.view.View.{View}
 use Rattle.turnstile.specs.declared.view.Stage.{Stage}
 use Rattle.turnstile.specs.declared.view.Stage.TheVariants.{Away, Waiting, Inside, Filling}
-use Rattle.turnstile.specs.Steps.{IsFirst}
+use Rattle.turnstile.specs.Histories.{IsFirst}
 use Rattle.turnstile.specs.Known.{Known}
 
 abbrev pub inside : Stage → Bool

@@ -1,7 +1,7 @@
 //! The turnstile.
 ghost use Rattle.std.specs.Prelude.{◌≡◌, ℕ, ◌+◌, ◌<◌, ◌≤◌, max, List, [], ◌∷◌, ◌++◌, IfOk, IfErr};
-ghost use Rattle.turnstile.specs.Rules.{StartsWith, Made, entries_by, most_passes, founder};
-ghost use Rattle.turnstile.specs.Steps.{Follows, IsFirst, news, add_made, longer};
+ghost use Rattle.turnstile.specs.Histories.{StartsWith, Made, entries_by, most_passes, Follows, IsFirst, news, add_made, longer};
+ghost use Rattle.turnstile.specs.Rules.{founder};
 ghost use Rattle.turnstile.specs.Known.{IsPassOf, IsEntered, IsOf, IsFounder, SameButPasses};
 
 use crate::pass::Pass;
@@ -112,16 +112,20 @@ impl<K: Logged> Turnstile<K> {
         Pass { number: 0, seat }
     }
 
-    /// Waits for the value.
+    /// Waits for the value. Its journal begins with what the pass has seen, and has under the pass's numbers exactly
+    /// the entries that it made.
     pub fn enter<R: Wait>(&self, rt: &R, pass: Pass<K>) -> Turn<K>
         requires { IsPassOf self.now pass }
         ensures turn { IsEntered self.now result.pass }
-        ensures value { (K.journal result.machine ≡ result.pass.seen) × (K.basis result.machine ≡ self.now.basis) }
+        ensures journal { K.journal result.machine ≡ result.pass.seen }
+        ensures basis { K.basis result.machine ≡ self.now.basis }
         ensures begins { StartsWith result.pass.seen pass.seen }
-        ensures own { (n : ℕ) (es : List K.Entry) → Made pass.made n es → entries_by n (K.journal result.machine) ≡ es }
+        ensures own { (n : ℕ) (es : List K.Entry) → Made pass.made n es
+            → entries_by n (K.journal result.machine) ≡ es }
         ensures first { IsFirst result.pass.number result.pass.made }
         ensures lawful { K.lawful self.now.basis result.pass.seen }
-        ensures same { (result.pass.number ≡ pass.number) × (result.pass.made ≡ pass.made) × (result.pass.passes ≡ pass.passes) }
+        ensures same { (result.pass.number ≡ pass.number) × (result.pass.made ≡ pass.made)
+            × (result.pass.passes ≡ pass.passes) }
     {
         let Pass { number, mut seat } = pass;
         let shared = &self.table.shared;
@@ -139,14 +143,15 @@ impl<K: Logged> Turnstile<K> {
         unreachable!()
     }
 
-    /// Puts the value back.
+    /// Puts the value back: as it was found, or with one entry more under the pass's number.
     pub fn leave(&self, turn: Turn<K>) -> Pass<K>
         requires turn { IsEntered self.now turn.pass }
         requires basis { K.basis turn.machine ≡ self.now.basis }
         requires journal { Follows turn.pass.number turn.pass.seen (K.journal turn.machine) }
         ensures pass { IsPassOf self.now result }
         ensures seen { result.seen ≡ K.journal turn.machine }
-        ensures made { result.made ≡ add_made (news turn.pass.seen (K.journal turn.machine)) turn.pass.made }
+        ensures made { result.made
+            ≡ add_made (news turn.pass.seen (K.journal turn.machine)) turn.pass.made }
         ensures lawful { K.lawful self.now.basis result.seen }
         ensures same { (result.number ≡ turn.pass.number) × (result.passes ≡ turn.pass.passes) }
     {
@@ -161,12 +166,14 @@ impl<K: Logged> Turnstile<K> {
         Pass { number, seat }
     }
 
-    /// A second pass, with a number of its own, that has seen as much.
+    /// A second pass, with a number of its own, that has seen as much. `Spent` comes exactly where all passes were made.
     pub fn split(&self, pass: Pass<K>) -> Result<(Pass<K>, Pass<K>), (Pass<K>, Spent)>
         requires { IsOf self.now pass }
         ensures kept { IfOk result (λ r. SameButPasses pass r.0) }
-        ensures new { IfOk result (λ r. IsPassOf self.now r.1 × (r.1.seen ≡ pass.seen) × (r.1.made ≡ (r.1.number, []) ∷ []) × (entries_by r.1.number pass.seen ≡ [])) }
-        ensures count { IfOk result (λ r. (pass.passes ≤ r.1.number) × (r.1.number < most_passes) × (r.0.passes ≡ r.1.number + 1) × (r.1.passes ≡ r.1.number + 1)) }
+        ensures new { IfOk result (λ r. IsPassOf self.now r.1 × (r.1.seen ≡ pass.seen)
+            × (r.1.made ≡ (r.1.number, []) ∷ []) × (entries_by r.1.number pass.seen ≡ [])) }
+        ensures count { IfOk result (λ r. (pass.passes ≤ r.1.number) × (r.1.number < most_passes)
+            × (r.0.passes ≡ r.1.number + 1) × (r.1.passes ≡ r.1.number + 1)) }
         ensures spent { IfErr result (λ e. SameButPasses pass e.0 × (e.0.passes ≡ most_passes)) }
     {
         let Pass { number, mut seat } = pass;
@@ -188,12 +195,13 @@ impl<K: Logged> Turnstile<K> {
         ))
     }
 
-    /// One pass in place of two, under the first one's number.
+    /// One pass in place of two, under the first one's number. The second number makes no more entries.
     pub fn join(&self, a: Pass<K>, b: Pass<K>) -> Pass<K>
         requires first { IsPassOf self.now a }
         requires second { IsPassOf self.now b }
         ensures pass { IsPassOf self.now result }
-        ensures both { (result.number ≡ a.number) × (result.seen ≡ longer a.seen b.seen) × (result.made ≡ a.made ++ b.made) }
+        ensures both { (result.number ≡ a.number) × (result.seen ≡ longer a.seen b.seen)
+            × (result.made ≡ a.made ++ b.made) }
         ensures count { result.passes ≡ max a.passes b.passes }
     {
         let Pass { number, mut seat } = a;

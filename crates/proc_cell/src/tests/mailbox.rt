@@ -7,7 +7,7 @@ ghost use Rattle.machine_api.specs.Steps.{Posts};
 use machine_api::{Down, Handled, Logged, Machine, PostFault};
 use std::alloc::Global;
 use std::sync::Arc;
-use text_core::{Bytes, OutOfMemory, Seq};
+use text_core::{Bytes, Frames, OutOfMemory, Seq};
 
 /// The texts of a message, or none for the outcome of one.
 pub type Note = Option<Seq<Bytes>>;
@@ -185,7 +185,7 @@ impl Machine for Mailbox {
 
     fn put_down(&mut self, _by: u32, _why: Down) {}
 
-    fn frames_from(&self, alloc: Global, _from: u64) -> Result<Seq<Bytes>, OutOfMemory> {
+    fn frames_from(&self, alloc: Global, _from: u64) -> Result<Frames, OutOfMemory> {
         Ok(Seq::new(alloc))
     }
 

@@ -67,7 +67,8 @@ returns-then-load-ticket g c =
     let here = c.self.view_is in
     record {
       turn = (tab ∙ ap (λ (z : Gate _). z.table) here, w.its_basis ∙ ap (λ (z : Gate _). Some z.basis) here, ap inside w.inside);
-      value = (ap g.K.Logged.journal machine ∙ sym (ap (λ (u : _). u.seen) v), ap g.K.Logged.basis machine ∙ (good.0 ∙ ap (λ (z : Gate _). z.basis) here));
+      journal = ap g.K.Logged.journal machine ∙ sym (ap (λ (u : _). u.seen) v);
+      basis = ap g.K.Logged.basis machine ∙ (good.0 ∙ ap (λ (z : Gate _). z.basis) here);
       begins = starts_along _ _ _ _ (sym (ap (λ (u : _). u.seen) v)) (ap (λ (k : Known _ _). k.seen) same) e.prefix;
       own = λ n es m. rw machine (e.own n es (made_along _ _ n es (sym (ap (λ (k : Known _ _). k.made) same)) m));
       first = w.first;

@@ -1,5 +1,6 @@
 use Rattle.std.proofs.Common.{arith, ◌∷◌, ◌++◌, ◌∙◌, ap, sym, Some, None}
-use Rattle.turnstile.specs.Steps.{under, news, add_made}
+use Rattle.turnstile.specs.Histories.{news, add_made}
+use Rattle.turnstile.proofs.Lists.{under}
 use Rattle.turnstile.specs.Known.{Gate, Known}
 use Rattle.turnstile.specs.Seats.{inside}
 use Rattle.turnstile.proofs.Rests.{within, sound_rest}
