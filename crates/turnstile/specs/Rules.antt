@@ -1,7 +1,7 @@
 -- The rule of a turnstile's table.
 -- Word 0 is the next ticket and word 1 the ticket that is served, both without the turns of their 64 bits.
 -- Word 2 counts the numbers that were drawn for passes. Slot 0 has the value, which is out with the pass whose ticket is served.
-use Rattle.std.specs.Prelude.{◌≡◌, ℕ, ◌+◌, ◌-◌, ◌%◌, ◌<◌, ◌≤◌, ◌⊎◌, List, [], ◌∷◌, ◌++◌, length, slice_index, min, Option, Some, None}
+use Rattle.std.specs.Prelude.{◌≡◌, ℕ, ◌+◌, ◌-◌, ◌%◌, ◌<◌, ◌≤◌, ◌⊎◌, List, [], ◌∷◌, length, slice_index, min, Option, Some, None}
 use mathlib.Core.Option.{Option as Maybe, some}
 use lib.ListN.{get_elem?}
 use Rattle.atomic_table.specs.Table.{State}
