@@ -4,6 +4,8 @@
 mod failing;
 mod link;
 mod still;
+#[cfg(test)]
+mod tests;
 mod web;
 mod web_listener;
 mod wire;

@@ -57,11 +57,7 @@ fn config() -> WebSocketConfig {
 }
 
 /// The link of a client whose handshake succeeds within its looks.
-pub(crate) fn greet<R: Clock + Drop>(
-    alloc: Global,
-    clock: R,
-    stream: TcpStream,
-) -> Welcome<R> {
+pub(crate) fn greet<R: Clock + Drop>(alloc: Global, clock: R, stream: TcpStream) -> Welcome<R> {
     let Ok(wire) = Wire::new(clock, stream) else {
         return Welcome::Dropped;
     };

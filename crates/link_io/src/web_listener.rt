@@ -75,8 +75,7 @@ fn judge<R>(error: &io::Error) -> Welcome<R> {
 }
 
 impl<R: Net<Listener = TcpListener, Stream = TcpStream> + Clock + Clone + Send + Drop> Listener
-    for WebListener<R>
-{
+    for WebListener<R> {
     ghost use Rattle.std.specs.Prelude.{None};
 
     type L = WebLink<R>;
