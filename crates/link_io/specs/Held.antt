@@ -6,8 +6,8 @@ use Rattle.link_io.specs.declared.link.Sent.{Sent}
 use Rattle.link_io.specs.declared.link.Sent.TheVariants as sent
 use Rattle.link_io.specs.declared.link.Accepted.{Accepted}
 use Rattle.link_io.specs.declared.link.Accepted.TheVariants as accepted
-use Rattle.link_io.specs.declared.still.Look.{Look}
-use Rattle.link_io.specs.declared.still.Look.TheVariants as look
+use Rattle.link_io.specs.declared.held.Look.{Look}
+use Rattle.link_io.specs.declared.held.Look.TheVariants as look
 
 -- what a script of looks gives first: it is closed at its end
 abbrev pub first_of : List Look → Got

@@ -1,8 +1,8 @@
 //! A link and a listener in memory that fail at chosen calls.
-ghost use Rattle.std.specs.Prelude.{◌≡◌, ◌+◌, ◌-◌, ◌^◌, ◌≤◌, ◌++◌, ◌∷◌, [], ◌↔◌, ◌⊎◌, IsTrue, Contains, min};
+ghost use Rattle.std.specs.Prelude.{◌≡◌, ◌+◌, ◌-◌, ◌^◌, ◌≤◌, ◌++◌, ◌∷◌, [], ◌↔◌, ◌⊎◌, IsTrue, Contains, min, true};
 
+use crate::held::{HeldLink, HeldListener};
 use crate::link::{Accepted, Answer, Got, Link, Listener, Sent};
-use crate::still::{HeldLink, HeldListener};
 use std::alloc::Global;
 use text_core::Seq;
 
@@ -34,6 +34,7 @@ impl FailingLink {
         ensures held { result.held ≡ held }
         ensures receives { result.failing_receives ≡ failing_receives }
         ensures sends { result.failing_sends ≡ failing_sends }
+        ensures counts { (result.receives ≡ 0) × (result.sends ≡ 0) × (result.faults ≡ 0) }
     {
         FailingLink {
             held,
@@ -87,7 +88,7 @@ impl Link for FailingLink {
         ensures script { Follows self.old.held.script.items self.new.held.script.items result }
         ensures number { self.new.receives ≡ min (self.old.receives + 1) (2 ^ 64 - 1) }
         ensures fails { Fails self.old.failing_receives self.new.receives result }
-        ensures kept { self.new.failing_receives ≡ self.old.failing_receives }
+        ensures rest { self.new ≡ record self.old { held = self.new.held; receives = self.new.receives; faults = self.new.faults } }
     {
         self.receives = self.receives.saturating_add(1);
         if is_among(&self.failing_receives, self.receives) {
@@ -102,8 +103,9 @@ impl Link for FailingLink {
         ensures cause { SentCause self.old.faults self.new.faults result }
         ensures quiets { self.old.held.quiets ≤ self.new.held.quiets }
         ensures number { self.new.sends ≡ min (self.old.sends + 1) (2 ^ 64 - 1) }
+        ensures script { self.new.held ≡ record self.old.held { taken = self.new.held.taken } }
         ensures fails { SendFails self.old.failing_sends self.new.sends result }
-        ensures kept { self.new.failing_sends ≡ self.old.failing_sends }
+        ensures rest { self.new ≡ record self.old { held = self.new.held; sends = self.new.sends; faults = self.new.faults } }
     {
         self.sends = self.sends.saturating_add(1);
         if is_among(&self.failing_sends, self.sends) {
@@ -113,7 +115,13 @@ impl Link for FailingLink {
         self.held.send(alloc, text)
     }
 
-    fn close(&mut self) {
+    fn close(&mut self)
+        ensures answers { self.new.held.given ≡ self.old.held.given }
+        ensures texts { self.new.held.taken ≡ self.old.held.taken }
+        ensures faults { self.old.faults ≤ self.new.faults }
+        ensures quiets { self.old.held.quiets ≤ self.new.held.quiets }
+        ensures closed { self.new ≡ record self.old { held = record self.old.held { is_closed = true } } }
+    {
         self.held.close();
     }
 
@@ -139,6 +147,7 @@ impl<K: Drop> FailingListener<K> {
     pub fn new(held: HeldListener<K>, failing: Seq<u64>) -> FailingListener<K>
         ensures held { result.held ≡ held }
         ensures failing { result.failing ≡ failing }
+        ensures counts { (result.accepts ≡ 0) × (result.faults ≡ 0) }
     {
         FailingListener {
             held,

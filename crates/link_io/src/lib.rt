@@ -2,8 +2,8 @@
 #![tactic(auto)]
 
 mod failing;
+mod held;
 mod link;
-mod still;
 #[cfg(test)]
 mod tests;
 mod web;
@@ -11,7 +11,7 @@ mod web_listener;
 mod wire;
 
 pub use failing::{FailingLink, FailingListener};
+pub use held::{HeldLink, HeldListener, Look};
 pub use link::{Accepted, Answer, Got, Link, Listener, Sent};
-pub use still::{HeldLink, HeldListener, Look};
 pub use web::WebLink;
 pub use web_listener::WebListener;

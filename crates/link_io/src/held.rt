@@ -1,5 +1,5 @@
 //! A link and a listener in memory that never fail.
-ghost use Rattle.std.specs.Prelude.{◌≡◌, ◌++◌, ◌∷◌, [], IfOk, OnOk, OnErr};
+ghost use Rattle.std.specs.Prelude.{◌≡◌, ◌++◌, ◌∷◌, [], IfOk, OnOk, OnErr, true, false};
 
 use crate::link::{Accepted, Answer, Got, Link, Listener, Sent};
 use std::alloc::Global;
@@ -30,6 +30,8 @@ impl HeldLink {
         ensures script { result.script.items ≡ [] }
         ensures given { result.given ≡ [] }
         ensures taken { result.taken ≡ [] }
+        ensures quiets { result.quiets ≡ 0 }
+        ensures open { result.is_closed ≡ false }
     {
         HeldLink {
             script: VecDeque::new(alloc),
@@ -44,8 +46,7 @@ impl HeldLink {
     pub fn push(&mut self, look: Look) -> Result<(), OutOfMemory>
         ensures ok { OnOk result (self.new.script.items ≡ self.old.script.items ++ look ∷ []) }
         ensures err { OnErr result (self.new.script.items ≡ self.old.script.items) }
-        ensures given { self.new.given ≡ self.old.given }
-        ensures taken { self.new.taken ≡ self.old.taken }
+        ensures rest { self.new ≡ record self.old { script = self.new.script } }
     {
         self.script.push_back(look)?;
         Ok(())
@@ -107,7 +108,7 @@ impl HeldLink {
 /// It never fails. After its script it answers Closed.
 impl Link for HeldLink {
     ghost use Rattle.std.specs.Prelude.{Some, ◌≤◌};
-    ghost use Rattle.link_io.specs.Links.{Gives, GotCause};
+    ghost use Rattle.link_io.specs.Links.{Gives, GotCause, Takes, SentCause};
     ghost use Rattle.link_io.specs.Held.{Follows};
 
     ghost answers = { λ l. Some l.given };
@@ -123,6 +124,7 @@ impl Link for HeldLink {
         ensures texts { self.new.taken ≡ self.old.taken }
         ensures cause { GotCause 0 0 self.old.quiets self.new.quiets result }
         ensures script { Follows self.old.script.items self.new.script.items result }
+        ensures rest { self.new ≡ record self.old { script = self.new.script; given = self.new.given; quiets = self.new.quiets } }
     {
         let Ok(got) = self.listed(alloc) else {
             return Got::OutOfMemory;
@@ -134,7 +136,13 @@ impl Link for HeldLink {
         got
     }
 
-    fn send(&mut self, alloc: Global, text: &[u8]) -> Sent {
+    fn send(&mut self, alloc: Global, text: &[u8]) -> Sent
+        ensures texts { Takes (Some self.old.taken) (Some self.new.taken) text.now result }
+        ensures answers { self.new.given ≡ self.old.given }
+        ensures cause { SentCause 0 0 result }
+        ensures quiets { self.old.quiets ≤ self.new.quiets }
+        ensures rest { self.new ≡ record self.old { taken = self.new.taken } }
+    {
         let Ok(text) = Bytes::copy_of(alloc, text) else {
             return Sent::OutOfMemory;
         };
@@ -144,7 +152,12 @@ impl Link for HeldLink {
         }
     }
 
-    fn close(&mut self) {
+    fn close(&mut self)
+        ensures answers { self.new.given ≡ self.old.given }
+        ensures texts { self.new.taken ≡ self.old.taken }
+        ensures quiets { self.old.quiets ≤ self.new.quiets }
+        ensures closed { self.new ≡ record self.old { is_closed = true } }
+    {
         self.is_closed = true;
     }
 
