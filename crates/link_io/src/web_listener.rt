@@ -1,5 +1,5 @@
 //! The listener over a TCP listener. It tells nothing of its answers.
-ghost use Rattle.std.specs.Prelude.{◌≡◌, ◌≤◌};
+ghost use Rattle.std.specs.Prelude.{◌≡◌, is_some, false, Option};
 
 use crate::link::{Accepted, Listener};
 use crate::web::{WebLink, Welcome, greet};
@@ -21,8 +21,12 @@ pub struct WebListener<R> {
 }
 
 impl<R: Net<Listener = TcpListener, Stream = TcpStream> + Clock + Clone + Drop> WebListener<R> {
+    ghost use Rattle.link_io.specs.declared.web.Welcome.TheVariants as welcome;
+
     /// Binds an address, as `127.0.0.1:4000`. Where that is refused, each `accept` fails.
-    pub fn bind(rt: R, address: &str, links: Option<u64>) -> WebListener<R> {
+    pub fn bind(rt: R, address: &str, links: Option<u64>) -> WebListener<R>
+        ensures { result.links ≡ links }
+    {
         let listener = TcpListener::bind(&rt, address).ok();
         WebListener {
             rt,
@@ -40,7 +44,9 @@ impl<R: Net<Listener = TcpListener, Stream = TcpStream> + Clock + Clone + Drop> 
     }
 
     // The next client, and what became of it.
-    fn next_client(&self, alloc: Global) -> Welcome<R> {
+    fn next_client(&self, alloc: Global) -> Welcome<R>
+        ensures { is_some self.now.listener ≡ false → result ≡ welcome.Failed }
+    {
         let Some(listener) = &self.listener else {
             return Welcome::Failed;
         };
@@ -54,7 +60,9 @@ impl<R: Net<Listener = TcpListener, Stream = TcpStream> + Clock + Clone + Drop> 
     }
 
     // The next client that is not dropped.
-    fn next_link(&self, alloc: Global) -> Welcome<R> {
+    fn next_link(&self, alloc: Global) -> Welcome<R>
+        ensures { is_some self.now.listener ≡ false → result ≡ welcome.Failed }
+    {
         for _ in 0..u64::MAX {
             match self.next_client(alloc) {
                 Welcome::Dropped => {}
@@ -77,6 +85,8 @@ fn judge<R>(error: &io::Error) -> Welcome<R> {
 impl<R: Net<Listener = TcpListener, Stream = TcpStream> + Clock + Clone + Send + Drop> Listener
     for WebListener<R> {
     ghost use Rattle.std.specs.Prelude.{None};
+    ghost use Rattle.link_io.specs.Links.{Accepts, AcceptedCause};
+    ghost use Rattle.link_io.specs.Real.{Counts, IsRefused};
 
     type L = WebLink<R>;
 
@@ -84,7 +94,12 @@ impl<R: Net<Listener = TcpListener, Stream = TcpStream> + Clock + Clone + Send +
 
     ghost failed = { λ l. l.faults };
 
-    fn accept(&mut self, alloc: Global) -> Accepted<WebLink<R>> {
+    fn accept(&mut self, alloc: Global) -> Accepted<WebLink<R>>
+        ensures answers { Accepts None None result }
+        ensures cause { AcceptedCause self.old.faults self.new.faults result }
+        ensures links { Counts self.old.links self.new.links result }
+        ensures refused { IsRefused (is_some self.old.listener) self.old.links result }
+    {
         if self.links == Some(0) {
             return Accepted::Stop;
         }
