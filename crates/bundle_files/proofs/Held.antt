@@ -1,10 +1,10 @@
 -- The files that were read are a bundle where those of the folder are.
-use Rattle.std.proofs.Common.{◌≡◌, ◌≤◌, ◌<◌, ◌+◌, ◌==◌, ◌||◌, ◌++◌, ℕ, zero, suc, List, [], ◌∷◌, map, take, length, Bool, true, false, cond, Option, Some, None, option_map, refl, arith, ap, sym, subst, ◌∙◌, nat_le}
+use Rattle.std.proofs.Common.{◌≡◌, ◌≤◌, ◌<◌, ◌+◌, ◌==◌, ◌||◌, ◌++◌, ℕ, zero, suc, List, [], ◌∷◌, map, take, length, codes, Bool, true, false, cond, get_or, Option, Some, None, option_map, refl, arith, ap, sym, subst, ◌∙◌, nat_le}
 use Rattle.std.specs.Option.{option_and_then, IfSome, is_some}
 use Rattle.std.specs.Str.{bytes_eq}
 use Rattle.std.proofs.lemmas.Slice.Eq.{bytes_eq-Decides}
-use Rattle.std.proofs.lemmas.Bool.{lt-leb, le-leb}
-use Rattle.std.proofs.lemmas.List.{length-take, take_all, length-map}
+use Rattle.std.proofs.lemmas.Bool.{lt-leb, le-leb, leb-true, leb-false}
+use Rattle.std.proofs.lemmas.List.{length-take, take_all, take_more, length-map}
 use Rattle.text_core.specs.Outside.{content_of, Holds}
 use Rattle.bundle_files.specs.Held.{AllHold}
 use Rattle.bundle_files.specs.Bundle.{small_file, bundle_of, bundle_with, bundle_from}
@@ -15,6 +15,9 @@ pub held_snoc : (fs files : List (List ℕ × List ℕ)) (f : List ℕ × List �
 held_snoc fs [] f a h = (h, tt)
 held_snoc fs (g ∷ files) f a h = (a.0, held_snoc fs files f a.1 h)
 
+some_is : {X : Type 0} (x y : X) → Some x ≡ Some y → x ≡ y
+some_is x y h = cc
+
 found_if : (b : Bool) (name : List ℕ) (f : List ℕ × List ℕ) (fs : List (List ℕ × List ℕ)) (o : Option (List ℕ)) (x : List ℕ) → bytes_eq name f.0 ≡ b → Holds f.0 1048576 f.1 fs → (o ≡ Some x → Holds name 1048576 x fs) → cond b (Some f.1) o ≡ Some x → Holds name 1048576 x fs
 found_if true name f fs o x e h more s = ap (λ n. option_map (take (1048576 + 1)) (content_of n fs)) ((bytes_eq-Decides name f.0).0 e) ∙ (h ∙ s)
 found_if false name f fs o x e h more s = more s
@@ -24,7 +27,7 @@ found : (name : List ℕ) (fs files : List (List ℕ × List ℕ)) (x : List ℕ
 found name fs [] x a s = cc
 found name fs (f ∷ files) x a s = found_if (bytes_eq name f.0) name f fs (content_of name files) x refl a.0 (λ e. found name fs files x a.1 e) s
 
-has : List ℕ → List (List ℕ) → Bool
+abbrev has : List ℕ → List (List ℕ) → Bool
 has name [] = false
 has name (n ∷ ns) = cond (bytes_eq name n) true (has name ns)
 
@@ -50,11 +53,11 @@ small most o = option_and_then (λ bytes. cond (nat_le (length bytes) most) (Som
 
 cut_if : (b : Bool) (most : ℕ) (c : List ℕ) → nat_le (length c) most ≡ b → cond (nat_le (length (take (most + 1) c)) most) (Some (take (most + 1) c)) None ≡ cond b (Some c) None
 cut_if true most c e =
-    let n : length c ≤ most = omega (arith, e) in
+    let n : length c ≤ most = leb-true (length c) most e in
     let t : take (most + 1) c ≡ c = take_all (most + 1) c (omega (arith, n)) in
     rw (t, e)
 cut_if false most c e =
-    let n : most < length c = omega (arith, e) in
+    let n : most < length c = leb-false (length c) most e in
     let t : nat_le (length (take (most + 1) c)) most ≡ false = lt-leb _ most (omega (arith, length-take (most + 1) c, n)) in
     rw t
 
@@ -79,18 +82,30 @@ cond_same b c x y z e h = rw (e, h)
 same : (fs files : List (List ℕ × List ℕ)) → AllHold fs files → map (λ f. f.0) files ≡ map (λ f. f.0) fs → bundle_of files ≡ bundle_of fs
 same fs files a e = cond_same (length files == 2) (length fs == 2) _ _ None (ap (λ n. n == 2) (lengths fs files e))
     (and_then_same (bundle_with files) (bundle_with fs) _ _
-      (λ m. ap (option_and_then (bundle_from m.mount)) (smalls _ fs files a e))
-      (ap (option_and_then manifest_in) (smalls _ fs files a e)))
+    (λ m. ap (option_and_then (bundle_from m.mount)) (smalls (m.template ++ codes ".html.heex") fs files a e))
+    (ap (option_and_then manifest_in) (smalls (codes "bundle.json") fs files a e)))
 
 -- what was judged of the files that were read holds of the folder's
 pub told : (o : Option (List (List ℕ × List ℕ))) (names : List (List ℕ)) (files : List (List ℕ × List ℕ)) (r : Option Bundle) → IfSome o (λ fs. names ≡ map (λ f. f.0) fs) → map (λ f. f.0) files ≡ names → IfSome o (λ fs. AllHold fs files) → r ≡ bundle_of files → IfSome o (λ fs. bundle_of fs ≡ r)
 told None names files r n e a h = tt
 told (Some fs) names files r n e a h = sym (h ∙ same fs files a (e ∙ n))
 
-two_if : (b : Bool) (fs : List (List ℕ × List ℕ)) → (length fs == 2) ≡ b → 256 < length fs → bundle_of fs ≡ None
-two_if true fs e h = omega (arith, e, h)
-two_if false fs e h = rw e
+if_held : (o p : Option (List (List ℕ × List ℕ))) (files : List (List ℕ × List ℕ)) (f : List ℕ × List ℕ) → p ≡ o → IfSome o (λ fs. AllHold fs files) → IfSome p (λ fs. Holds f.0 1048576 f.1 fs) → IfSome o (λ fs. AllHold fs (files ++ f ∷ []))
+if_held None p files f e a h = tt
+if_held (Some fs) None files f e a h = cc
+if_held (Some fs) (Some gs) files f e a h = let same : gs ≡ fs = some_is gs fs e in held_snoc fs files f a (subst (λ (x : List (List ℕ × List ℕ)). Holds f.0 1048576 f.1 x) same h)
 
-pub too_many : (o : Option (List (List ℕ × List ℕ))) (names : List (List ℕ)) → IfSome o (λ fs. names ≡ map (λ f. f.0) fs) → 256 < length names → IfSome o (λ fs. bundle_of fs ≡ None)
-too_many None names n h = tt
-too_many (Some fs) names n h = two_if (length fs == 2) fs refl (omega (arith, ap length n, length-map fs (λ f. f.0), h))
+map_snoc : (files : List (List ℕ × List ℕ)) (f : List ℕ × List ℕ) → map (λ g. g.0) (files ++ f ∷ []) ≡ map (λ g. g.0) files ++ f.0 ∷ []
+map_snoc [] f = refl
+map_snoc (g ∷ files) f = ap (λ ns. g.0 ∷ ns) (map_snoc files f)
+
+-- the names of the files when one more was read
+pub named : (names : List (List ℕ)) (files more : List (List ℕ × List ℕ)) (i : ℕ) (name copy content : List ℕ) → map (λ f. f.0) files ≡ take i names → i < length names → get_or names i name ≡ name → copy ≡ name → more ≡ files ++ (copy, content) ∷ [] → map (λ f. f.0) more ≡ take (i + 1) names
+named names files more i name copy content e l g c m =
+    ap (map (λ f. f.0)) m ∙ map_snoc files (copy, content) ∙ ap (λ ns. ns ++ copy ∷ []) e ∙ ap (λ n. take i names ++ n ∷ []) (c ∙ sym g) ∙ sym (take_more names i name l)
+
+-- what the files hold when one more was read
+pub holding : (o p : Option (List (List ℕ × List ℕ))) (files more : List (List ℕ × List ℕ)) (name copy content : List ℕ) → p ≡ o → IfSome o (λ fs. AllHold fs files) → IfSome p (λ fs. Holds name 1048576 content fs) → copy ≡ name → more ≡ files ++ (copy, content) ∷ [] → IfSome o (λ fs. AllHold fs more)
+holding o p files more name copy content e a h c m =
+    subst (λ (ms : List (List ℕ × List ℕ)). IfSome o (λ fs. AllHold fs ms)) (sym m)
+    (if_held o p files (copy, content) e a (subst (λ (n : List ℕ). IfSome p (λ fs. Holds n 1048576 content fs)) (sym c) h))

@@ -14,7 +14,11 @@ pub const MOST_BYTES: usize = 1_048_576;
 pub type Files = Seq<(Text, Bytes)>;
 
 /// The listed files, of each as much as tells whether it is too large.
-pub fn read_files<F: Folder>(alloc: Global, folder: &mut F, names: &[Text]) -> Result<Files, FolderFault>
+pub fn read_files<F: Folder>(
+    alloc: Global,
+    folder: &mut F,
+    names: &[Text],
+) -> Result<Files, FolderFault>
     requires { F.listed folder.old ≡ names.now }
     ensures names { IfOk result (λ files. map (λ f. f.0) files ≡ names.now) }
     ensures content { IfOk result (λ files. IfSome (F.files folder.old) (λ fs. AllHold fs files)) }

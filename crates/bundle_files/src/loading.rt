@@ -19,7 +19,10 @@ fn is_assigned(mount: &[Step], name: &str) -> bool
     ensures { result ≡ is_assigned mount.now name.now }
 {
     for step in mount {
-        let Step::Assign { name: assigned, value: _ } = step;
+        let Step::Assign {
+            name: assigned,
+            value: _,
+        } = step;
         if assigned.as_str() == name {
             return true;
         }
@@ -67,7 +70,11 @@ fn bundle_from(alloc: Global, mount: Steps, source: &[u8]) -> Result<Option<Bund
 }
 
 // The bundle of a manifest and the template that it names.
-fn bundle_with(alloc: Global, files: &[(Text, Bytes)], manifest: Manifest) -> Result<Option<Bundle>, OutOfMemory>
+fn bundle_with(
+    alloc: Global,
+    files: &[(Text, Bytes)],
+    manifest: Manifest,
+) -> Result<Option<Bundle>, OutOfMemory>
     ensures { IfOk result (λ bundle. bundle ≡ bundle_with files.now manifest) }
 {
     let Manifest { template, mount } = manifest;
