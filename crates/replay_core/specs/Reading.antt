@@ -36,7 +36,7 @@ abbrev pub or_else : Option Line → Option Line → Option Line
 or_else None other = other
 or_else (Some x) other = Some x
 
-abbrev pub line_of : List ℕ → Option Line
+unfoldable pub line_of : List ℕ → Option Line
 line_of l = or_else (browser_line l) (or_else (join_line l) (or_else (run_line l) (or_else (html_line l) (frames_line l))))
 
 abbrev pub admit : List Line → Line → Option (List Line)
@@ -46,10 +46,15 @@ admit before x = if may_stand before x then Some (before ++ x ∷ []) else None
 abbrev pub with_line : List Line → List ℕ → Option (List Line)
 with_line before l = if is_utf8 l then (if does_nothing l then Some before else option_and_then (admit before) (line_of l)) else None
 
+-- what follows a line of the number `n`, where that has been read
+abbrev pub or_bad : ℕ → Option (List Line) → (List Line → Result (List Line) ℕ) → Result (List Line) ℕ
+or_bad n None next = Err n
+or_bad n (Some after) next = next after
+
 -- the script behind these lines, of which the first has the number `n`
 abbrev pub script_from : List Line → ℕ → List (List ℕ) → Result (List Line) ℕ
 script_from before n [] = Ok before
-script_from before n (l ∷ ls) = elim (with_line before l) [ None ↦ Err n | Some after ↦ script_from after (n + 1) ls ]
+script_from before n (l ∷ ls) = or_bad n (with_line before l) (λ after. script_from after (n + 1) ls)
 
 -- the script that a text spells, or the number of its bad line
 abbrev pub script_of : List ℕ → Result (List Line) ℕ

@@ -2,8 +2,9 @@
 ghost use Rattle.std.specs.Prelude.{◌≡◌, ℕ, ◌≢◌, ◌≤◌, ◌<◌, ◌+◌, ◌∷◌, ◌++◌, ◌==◌, [], IfOk, IfSome, None, Some, Ok, Err, length, position, count_by, option_and_then, nat_lt, codes, true};
 ghost use Rattle.std.specs.Option.{option_copied};
 ghost use Rattle.std.specs.List.{list_all, list_any};
+ghost use Rattle.std.specs.Str.{is_utf8};
 ghost use Rattle.replay_core.specs.Script.{lines, is_letter_or_digit, is_name, declared, joined, is_listed, may_stand, does_nothing, line_behind, most_bytes};
-ghost use Rattle.replay_core.specs.Reading.{behind, in_front, name_of, browser_line, join_line, run_line, html_line, frames_line, line_of, with_line, script_from, script_of};
+ghost use Rattle.replay_core.specs.Reading.{behind, in_front, name_of, browser_line, join_line, run_line, html_line, frames_line, line_of, admit, with_line, script_from, script_of};
 
 use crate::{Line, Script, ScriptFault};
 use std::alloc::Global;
@@ -132,6 +133,7 @@ fn frames_line(alloc: Global, line: &[u8]) -> Result<Option<Line>, OutOfMemory>
 }
 
 // The line that does something which these bytes are.
+#[tactic(auto, unfolding(crate::specs::Reading::line_of))]
 fn line_of(alloc: Global, line: &[u8]) -> Result<Option<Line>, OutOfMemory>
     ensures { IfOk result (λ x. x ≡ line_of line.now) }
 {
@@ -163,6 +165,38 @@ fn is_listed(name: &Text, names: &[Text]) -> bool
     ensures { result ≡ is_listed name.now names.now }
 {
     names.iter().any(|n| n.as_str() == name.as_str())
+}
+
+// Whether the bytes are UTF-8.
+fn is_text(bytes: &[u8]) -> bool
+    ensures { result ≡ is_utf8 bytes.now }
+{
+    match str::from_utf8(bytes) {
+        Ok(_) => true,
+        Err(_) => false,
+    }
+}
+
+// The declared names, with that of a line that declares one.
+fn with_declared(alloc: Global, mut names: Names, line: &Line) -> Result<Names, OutOfMemory>
+    ensures { IfOk result (λ ns. ns ≡ names ++ declared (line.now ∷ [])) }
+{
+    if let Line::Browser { name } = line {
+        names.push(name.copy(alloc)?)?;
+        return Ok(names);
+    }
+    Ok(names)
+}
+
+// The joined names, with that of a line by which a browser joins.
+fn with_joined(alloc: Global, mut names: Names, line: &Line) -> Result<Names, OutOfMemory>
+    ensures { IfOk result (λ ns. ns ≡ names ++ joined (line.now ∷ [])) }
+{
+    if let Line::Join { name, .. } = line {
+        names.push(name.copy(alloc)?)?;
+        return Ok(names);
+    }
+    Ok(names)
 }
 
 // The script so far, with the names of its browsers.
@@ -246,20 +280,17 @@ impl Reader {
         }
     }
 
-    // Adds a line; after an error the reader is not used again.
+    // The reader behind one line more.
     fn push(self, alloc: Global, line: Line) -> Result<Reader, OutOfMemory>
         ensures { IfOk result (λ r. r ≡ self ++ line ∷ []) }
     {
         let Reader {
-            mut declared,
-            mut joined,
+            declared,
+            joined,
             mut lines,
         } = self;
-        match &line {
-            Line::Browser { name } => declared.push(name.copy(alloc)?)?,
-            Line::Join { name, .. } => joined.push(name.copy(alloc)?)?,
-            Line::Run { .. } | Line::Html { .. } | Line::Frames { .. } => {}
-        }
+        let declared = with_declared(alloc, declared, &line)?;
+        let joined = with_joined(alloc, joined, &line)?;
         lines.push(line)?;
         Ok(Reader {
             declared,
@@ -268,23 +299,30 @@ impl Reader {
         })
     }
 
-    // The reader behind one line more, if that can be read.
+    // The reader behind this line, if the line may stand there.
+    fn admit(self, alloc: Global, line: Line) -> Result<Option<Reader>, OutOfMemory>
+        ensures { IfOk result (λ r. r ≡ admit self line) }
+    {
+        if !self.may_stand(&line) {
+            return Ok(None);
+        }
+        Ok(Some(self.push(alloc, line)?))
+    }
+
+    // The reader behind a line of text, if that can be read.
     fn with_line(self, alloc: Global, line: &[u8]) -> Result<Option<Reader>, OutOfMemory>
         ensures { IfOk result (λ r. r ≡ with_line self line.now) }
     {
-        if str::from_utf8(line).is_err() {
+        if !is_text(line) {
             return Ok(None);
         }
         if does_nothing(line) {
             return Ok(Some(self));
         }
-        let Some(read) = line_of(alloc, line)? else {
-            return Ok(None);
-        };
-        if !self.may_stand(&read) {
-            return Ok(None);
+        match line_of(alloc, line)? {
+            Some(read) => self.admit(alloc, read),
+            None => Ok(None),
         }
-        Ok(Some(self.push(alloc, read)?))
     }
 }
 
