@@ -82,7 +82,7 @@ last_line bs rest n e some at behind =
 letter_small : (b : ℕ) → is_letter_or_digit b ≡ true → b < 128
 letter_small b h = grind (arith, nat_tests)
 
-head_true : (a b : Bool) → (a && b) ≡ true → (a ≡ true) × (b ≡ true)
+pub head_true : (a b : Bool) → (a && b) ≡ true → (a ≡ true) × (b ≡ true)
 head_true true true e = (refl, refl)
 head_true true false e = cc
 head_true false b e = cc
