@@ -1,14 +1,16 @@
 -- The function that reads, and the relation that says what is read, agree.
-use Rattle.std.proofs.Common.{arith, ◌≡◌, ◌≤◌, ◌<◌, ◌⊎◌, ◌↔◌, inl, inr, ℕ, ◌+◌, ◌-◌, List, [], ◌∷◌, ◌++◌, length, take, drop, codes, Bool, true, false, cond, ◌&&◌, nat_le, Option, Some, None, option_map, option_and_then, refl, ap, sym, suc, subst, ◌∙◌, Result, Ok, Err, length-append, append_assoc}
+use Rattle.std.proofs.Common.{arith, ◌≡◌, ◌≤◌, ◌<◌, ◌⊎◌, ◌↔◌, inl, inr, ℕ, ◌+◌, ◌-◌, List, [], ◌∷◌, ◌++◌, length, take, drop, codes, Bool, true, false, cond, ◌&&◌, nat_le, Option, Some, None, option_map, option_and_then, refl, ap, sym, suc, subst, ◌∙◌, Result, Ok, Err, IfOk, length-append, append_assoc}
 use Rattle.std.specs.Str.{IsUtf8, is_utf8, bytes_eq}
 use Rattle.std.proofs.lemmas.Str.{IsUtf8-from_is_utf8, is_utf8-from_IsUtf8}
 use Rattle.std.proofs.lemmas.Slice.Eq.{bytes_eq-Decides}
 use Rattle.std.proofs.lemmas.List.{take-append-drop}
 use Rattle.std.proofs.Math.Seq.{drop-append_seam, take-append_seam}
+use Rattle.std.proofs.lemmas.Bool.{leb-true, leb-false}
 use Rattle.replay_core.specs.declared.script.Line.{Line}
+use Rattle.replay_core.specs.declared.script.ScriptFault.{ScriptFault}
 use Rattle.replay_core.specs.declared.script.Line.TheVariants as line
 use Rattle.replay_core.specs.Script.{lines, is_name, line_text, is_fit, may_stand, does_nothing, Adds, SpellsLines, SpellsScript, IsFirstBad, IsBadLine, most_bytes, line_behind}
-use Rattle.replay_core.specs.Reading.{behind, in_front, name_of, browser_line, join_line, run_line, html_line, frames_line, or_else, line_of, admit, with_line, or_bad, script_from, script_of}
+use Rattle.replay_core.specs.Reading.{behind, in_front, name_of, browser_line, join_line, run_line, html_line, frames_line, or_else, line_of, admit, with_line, or_bad, script_from, script_of, ReadsAsSpelled, NamesBadLine}
 use Rattle.replay_core.proofs.Lines.{head_true, goes_on, stops}
 
 some_in : {X : Type 0} (b : Bool) (v r : X) → cond b (Some v) None ≡ Some r → (b ≡ true) × (v ≡ r)
@@ -207,3 +209,61 @@ bad_back (l ∷ earlier) before n bad later script (after, adds, more) stray =
     goes_on before n l (earlier ++ bad ∷ later) after (adds_back before l after adds)
     ∙ bad_back earlier after (n + 1) bad later script more stray
     ∙ ap Err same
+
+-- the limit
+
+leb_back : (b : Bool) (m n : ℕ) → nat_le m n ≡ b → m ≤ n → b ≡ true
+leb_back true m n e h = refl
+leb_back false m n e h = let past : n < m = leb-false m n e in absurd (omega arith)
+
+few : (text : List ℕ) → length text ≤ most_bytes → script_of text ≡ script_from [] 1 (lines text)
+few text h =
+    ap (λ b. cond b (script_from [] 1 (lines text)) (Err (line_behind (take most_bytes text))))
+    (leb_back (nat_le (length text) most_bytes) (length text) most_bytes refl h)
+
+leb_out : (b : Bool) (m n : ℕ) → nat_le m n ≡ b → n < m → b ≡ false
+leb_out true m n e h = let past : m ≤ n = leb-true m n e in absurd (omega arith)
+leb_out false m n e h = refl
+
+many : (text : List ℕ) → most_bytes < length text → script_of text ≡ Err (line_behind (take most_bytes text))
+many text h =
+    ap (λ b. cond b (script_from [] 1 (lines text)) (Err (line_behind (take most_bytes text))))
+    (leb_out (nat_le (length text) most_bytes) (length text) most_bytes refl h)
+
+spells_by : (text : List ℕ) (s : List Line) (b : Bool) (n : ℕ) → nat_le (length text) most_bytes ≡ b → cond b (script_from [] 1 (lines text)) (Err n) ≡ Ok s → SpellsScript text s
+spells_by text s true n h e = (leb-true (length text) most_bytes h, spelled (lines text) [] 1 s e)
+spells_by text s false n h e = cc
+
+first_bad : (text : List ℕ) (n : ℕ) → BadFrom [] 1 (lines text) n → IsFirstBad text n
+first_bad text n b = record { earlier = b.earlier; bad = b.bad; later = b.later; script = b.script; cut = b.cut; number = b.number; read = b.read; stray = b.stray }
+
+bad_by : (text : List ℕ) (n : ℕ) (b : Bool) → nat_le (length text) most_bytes ≡ b → cond b (script_from [] 1 (lines text)) (Err (line_behind (take most_bytes text))) ≡ Err n → IsBadLine text n
+bad_by text n true h e = inr (leb-true (length text) most_bytes h, first_bad text n (bad_from (lines text) [] 1 n e))
+bad_by text n false h e = inl (leb-false (length text) most_bytes h, cc)
+
+pub spells : (text : List ℕ) (s : List Line) → script_of text ≡ Ok s → SpellsScript text s
+spells text s = spells_by text s (nat_le (length text) most_bytes) (line_behind (take most_bytes text)) refl
+
+pub spells_back : (text : List ℕ) (s : List Line) → SpellsScript text s → script_of text ≡ Ok s
+spells_back text s (h, e) = few text h ∙ spelled_back (lines text) [] 1 s e
+
+pub bad_line : (text : List ℕ) (n : ℕ) → script_of text ≡ Err n → IsBadLine text n
+bad_line text n = bad_by text n (nat_le (length text) most_bytes) refl
+
+pub bad_line_back : (text : List ℕ) (n : ℕ) → IsBadLine text n → script_of text ≡ Err n
+bad_line_back text n (inl (h, e)) = many text h ∙ ap Err (sym e)
+bad_line_back text n (inr (h, b)) =
+    few text h
+    ∙ ap (λ ls. script_from [] 1 ls) b.cut
+    ∙ bad_back b.earlier [] 1 b.bad b.later b.script b.read b.stray
+    ∙ ap Err (sym b.number)
+
+pub read_spelled : (text : List ℕ) (r : Result (List Line) ScriptFault) → IfOk r (λ s. script_of text ≡ Ok s) → IfOk r (λ s. SpellsScript text s)
+read_spelled text (Ok s) h = spells text s h
+read_spelled text (Err e) h = tt
+
+pub reads_as_spelled : ReadsAsSpelled
+reads_as_spelled = λ text s. (spells text s, spells_back text s)
+
+pub names_bad_line : NamesBadLine
+names_bad_line = λ text n. (bad_line text n, bad_line_back text n)

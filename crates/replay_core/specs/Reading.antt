@@ -1,9 +1,9 @@
 -- The reader of scripts as a function: the script that a text spells, or the number of its bad line.
-use Rattle.std.specs.Prelude.{ℕ, ◌+◌, ◌-◌, List, [], ◌∷◌, ◌++◌, length, take, drop, codes, Bool, true, false, nat_le, if◌then◌else◌, Option, Some, None, option_map, option_and_then, Result, Ok, Err}
+use Rattle.std.specs.Prelude.{◌≡◌, ◌↔◌, ℕ, ◌+◌, ◌-◌, List, [], ◌∷◌, ◌++◌, length, take, drop, codes, Bool, true, false, nat_le, if◌then◌else◌, Option, Some, None, option_map, option_and_then, Result, Ok, Err}
 use Rattle.std.specs.Str.{is_utf8, bytes_eq}
 use Rattle.replay_core.specs.declared.script.Line.{Line}
 use Rattle.replay_core.specs.declared.script.Line.TheVariants as line
-use Rattle.replay_core.specs.Script.{is_name, may_stand, does_nothing, lines, line_behind, most_bytes}
+use Rattle.replay_core.specs.Script.{is_name, may_stand, does_nothing, lines, line_behind, most_bytes, SpellsScript, IsBadLine}
 
 -- what stands behind a beginning, and in front of an ending
 abbrev pub behind : List ℕ → List ℕ → Option (List ℕ)
@@ -59,3 +59,11 @@ script_from before n (l ∷ ls) = or_bad n (with_line before l) (λ after. scrip
 -- the script that a text spells, or the number of its bad line
 abbrev pub script_of : List ℕ → Result (List Line) ℕ
 script_of text = if nat_le (length text) most_bytes then script_from [] 1 (lines text) else Err (line_behind (take most_bytes text))
+
+-- a text is read as a script exactly where it spells it
+abbrev pub ReadsAsSpelled : Type 0
+ReadsAsSpelled = (text : List ℕ) (s : List Line) → (script_of text ≡ Ok s) ↔ SpellsScript text s
+
+-- a line is named exactly where it is the bad one
+abbrev pub NamesBadLine : Type 0
+NamesBadLine = (text : List ℕ) (n : ℕ) → (script_of text ≡ Err n) ↔ IsBadLine text n

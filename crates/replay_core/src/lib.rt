@@ -3,6 +3,8 @@
 
 mod read;
 mod script;
+#[cfg(test)]
+mod tests;
 
-pub use read::read_script;
+pub use read::{read_script, script_law};
 pub use script::{Line, Script, ScriptFault};

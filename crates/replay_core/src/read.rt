@@ -3,8 +3,8 @@ ghost use Rattle.std.specs.Prelude.{◌≡◌, ℕ, ◌≢◌, ◌≤◌, ◌<�
 ghost use Rattle.std.specs.Option.{option_copied};
 ghost use Rattle.std.specs.List.{list_all, list_any};
 ghost use Rattle.std.specs.Str.{is_utf8};
-ghost use Rattle.replay_core.specs.Script.{lines, is_letter_or_digit, is_name, declared, joined, is_listed, may_stand, does_nothing, line_behind, most_bytes};
-ghost use Rattle.replay_core.specs.Reading.{behind, in_front, name_of, browser_line, join_line, run_line, html_line, frames_line, line_of, admit, with_line, script_from, script_of};
+ghost use Rattle.replay_core.specs.Script.{lines, is_letter_or_digit, is_name, declared, joined, is_listed, may_stand, does_nothing, line_behind, most_bytes, SpellsScript, IsBadLine};
+ghost use Rattle.replay_core.specs.Reading.{behind, in_front, name_of, browser_line, join_line, run_line, html_line, frames_line, line_of, admit, with_line, script_from, script_of, ReadsAsSpelled, NamesBadLine};
 
 use crate::{Line, Script, ScriptFault};
 use std::alloc::Global;
@@ -381,14 +381,7 @@ fn line_behind(bytes: &[u8]) -> u32
     1 + feeds as u32
 }
 
-/// Reads a script: lines of words with one space between them, at most 16,777,216 bytes.
-///
-/// An empty line and a line that begins with `#` do nothing. The others are `browser B`,
-/// `join B /`, `run B`, `html B` and `frames B`, where B is one to eight ASCII letters or digits.
-/// At most 64 browsers are declared, each once and before its use, and each joins at most once.
-/// `BadLine` names the line of the first byte past the limit, and else the first line that cannot
-/// be read.
-pub fn read_script(alloc: Global, text: &[u8]) -> Result<Script, ScriptFault>
+fn read_text(alloc: Global, text: &[u8]) -> Result<Script, ScriptFault>
     ensures read { IfOk result (λ s. script_of text.entry.now ≡ Ok s) }
     ensures bad_line { (n : ℕ) → result ≡ Err (ScriptFault.BadLine n) → script_of text.entry.now ≡ Err n }
 {
@@ -397,4 +390,28 @@ pub fn read_script(alloc: Global, text: &[u8]) -> Result<Script, ScriptFault>
         return Err(ScriptFault::BadLine(line_behind(front)));
     }
     read_lines(alloc, text)
+}
+
+/// Reads a script: lines of words with one space between them, at most 16,777,216 bytes.
+///
+/// An empty line and a line that begins with `#` do nothing. The others are `browser B`,
+/// `join B /`, `run B`, `html B` and `frames B`, where B is one to eight ASCII letters or digits.
+/// At most 64 browsers are declared, each once and before its use, and each joins at most once.
+/// `BadLine` names the line of the first byte past the limit, and else the first line that cannot
+/// be read.
+pub fn read_script(alloc: Global, text: &[u8]) -> Result<Script, ScriptFault>
+    ensures read { IfOk result (λ s. SpellsScript text.entry.now s) }
+    ensures bad_line { (n : ℕ) → result ≡ Err (ScriptFault.BadLine n) → IsBadLine text.entry.now n }
+    ensures script { IfOk result (λ s. script_of text.entry.now ≡ Ok s) }
+    ensures number { (n : ℕ) → result ≡ Err (ScriptFault.BadLine n) → script_of text.entry.now ≡ Err n }
+{
+    read_text(alloc, text)
+}
+
+/// The law that the reader as a function answers a script exactly where the text spells it, and
+/// the number of a line exactly where that line is the bad one. So a text spells one script at most.
+pub fn script_law()
+    ensures script { ReadsAsSpelled }
+    ensures bad_line { NamesBadLine }
+{
 }
