@@ -91,9 +91,9 @@ letters_ascii : (l : List ℕ) → list_all is_letter_or_digit l ≡ true → Is
 letters_ascii [] h = λ i. lit< tt
 letters_ascii (b ∷ bs) h = let both = head_true (is_letter_or_digit b) (list_all is_letter_or_digit bs) h in λ i. at_place b bs (letter_small b both.0) (letters_ascii bs both.1) i
   where
-  at_place : (b : ℕ) (bs : List ℕ) → b < 128 → IsAscii bs → (i : ℕ) → get_or (b ∷ bs) i 0 < 128
-  at_place b bs h hs zero = h
-  at_place b bs h hs (suc i) = hs i
+    at_place : (b : ℕ) (bs : List ℕ) → b < 128 → IsAscii bs → (i : ℕ) → get_or (b ∷ bs) i 0 < 128
+    at_place b bs h hs zero = h
+    at_place b bs h hs (suc i) = hs i
 
 -- a name is UTF-8
 pub name_utf8 : (l : List ℕ) → is_name l ≡ true → IsUtf8 l

@@ -76,7 +76,7 @@ abbrev pub Adds : List Line → List ℕ → List Line → Type 0
 Adds before l after =
     IsUtf8 l
     × (((does_nothing l ≡ true) × (after ≡ before))
-      ⊎ ((x : Line) × (l ≡ line_text x) × (is_fit x ≡ true) × (may_stand before x ≡ true) × (after ≡ before ++ x ∷ [])))
+    ⊎ ((x : Line) × (l ≡ line_text x) × (is_fit x ≡ true) × (may_stand before x ≡ true) × (after ≡ before ++ x ∷ [])))
 
 -- behind the script `before`, these lines make the script `s`
 abbrev pub SpellsLines : List Line → List (List ℕ) → List Line → Type 0
