@@ -1,6 +1,6 @@
 -- The function that reads, and the relation that says what is read, agree.
-use Rattle.std.proofs.Common.{arith, ◌≡◌, ◌≤◌, ◌<◌, ◌⊎◌, ◌↔◌, inl, inr, ℕ, ◌+◌, ◌-◌, List, [], ◌∷◌, ◌++◌, length, take, drop, codes, Bool, true, false, cond, ◌&&◌, nat_le, Option, Some, None, option_map, option_and_then, refl, ap, sym, suc, subst, ◌∙◌, Result, Ok, Err, IfOk, length-append, append_assoc}
-use Rattle.std.specs.Str.{IsUtf8, is_utf8, bytes_eq}
+use Rattle.std.proofs.Common.{arith, ◌≡◌, ◌≤◌, ◌<◌, inl, inr, ℕ, ◌+◌, ◌-◌, List, [], ◌∷◌, ◌++◌, length, take, drop, codes, Bool, true, false, cond, ◌&&◌, nat_le, Option, Some, None, option_map, option_and_then, refl, ap, sym, suc, subst, ◌∙◌, Result, Ok, Err, IfOk, length-append}
+use Rattle.std.specs.Str.{is_utf8, bytes_eq}
 use Rattle.std.proofs.lemmas.Str.{IsUtf8-from_is_utf8, is_utf8-from_IsUtf8}
 use Rattle.std.proofs.lemmas.Slice.Eq.{bytes_eq-Decides}
 use Rattle.std.proofs.lemmas.List.{take-append-drop}

@@ -1,8 +1,8 @@
 -- Facts on cut lines, names and single steps of the reader.
-use Rattle.std.proofs.Common.{rules, arith, ◌≡◌, ◌≢◌, ◌≤◌, ◌<◌, ℕ, ◌+◌, zero, suc, List, [], ◌∷◌, ◌++◌, length, take, drop, get_or, Bool, true, false, not, cond, ◌&&◌, ◌==◌, nat_lt, if◌then◌else◌, Option, Some, None, position, refl, ap, sym, ◌∙◌, Result, Ok, Err, lit<}
-use Rattle.std.specs.List.{list_all, prefix_len, position_or_len}
+use Rattle.std.proofs.Common.{arith, ◌≡◌, ◌≢◌, ◌≤◌, ◌<◌, ℕ, ◌+◌, zero, suc, List, [], ◌∷◌, ◌++◌, length, take, drop, get_or, Bool, true, false, cond, ◌&&◌, ◌==◌, nat_lt, Option, Some, None, position, refl, ap, sym, ◌∙◌, Err, lit<}
+use Rattle.std.specs.List.{list_all, position_or_len}
 use Rattle.std.specs.Str.{IsUtf8, IsAscii, is_utf8}
-use Rattle.std.proofs.lemmas.Str.{IsUtf8-from_ascii, IsUtf8-from_is_utf8, is_utf8-from_IsUtf8}
+use Rattle.std.proofs.lemmas.Str.{IsUtf8-from_ascii, IsUtf8-from_is_utf8}
 use Rattle.std.proofs.lemmas.Bool.Decides.{nat_tests}
 use Rattle.std.proofs.Math.Seq.{drop-length}
 use borrow.Author.Tests.{ltb-true, ltb-false}
