@@ -1,5 +1,5 @@
 -- Trees with components: what is sent whole, what is sent lean, and what a client holds.
-use Rattle.std.specs.Prelude.{◌≡◌, ◌⊎◌, ℕ, suc, max, List, [], ◌∷◌, ◌++◌, ◌==◌, Option, Some, None, if◌then◌else◌}
+use Rattle.std.specs.Prelude.{◌≡◌, true, false, ◌⊎◌, ℕ, suc, max, List, [], ◌∷◌, ◌++◌, ◌==◌, Option, Some, None, if◌then◌else◌}
 use Rattle.ast_core.specs.Syntax.{Nodes}
 use Rattle.doc_model.specs.Environment.{Component, Env}
 use Rattle.diff_tree.specs.Tree.{Tree, node, Trees, Change, write}
@@ -10,7 +10,7 @@ use Rattle.doc_model.specs.Holding.{Holds}
 use Rattle.doc_model.specs.Left.{Containers, Leaves, Based, SameNumbers}
 use Rattle.doc_model.specs.Scopes.{Site}
 use Rattle.ast_core.specs.Places.{places_in}
-use Rattle.diff_tree.specs.Client.{PageTree, PageDiff}
+use Rattle.diff_tree.specs.Client.{among, PageTree, PageDiff}
 
 -- a component as it was met
 pub record Part : Type 0 where
@@ -54,6 +54,11 @@ abbrev pub part_numbers : List Part → List ℕ
 part_numbers [] = []
 part_numbers (p ∷ ps) = p.number ∷ part_numbers ps
 
+-- these numbers are all among those
+abbrev pub AllAmong : List ℕ → List ℕ → Type 0
+AllAmong [] ks = Unit {0}
+AllAmong (n ∷ ns) ks = (among n ks ≡ true) × AllAmong ns ks
+
 -- the whole page that is sent
 abbrev pub whole_tree : List (List ℕ) → Items → PageTree
 whole_tree st is = record { root = node st (whole_places is); numbers = part_numbers (parts is); component = λ n. option_tree (part_at n (parts is)) }
@@ -95,8 +100,13 @@ abbrev pub Distinct : List Part → Type 0
 Distinct [] = Unit {0}
 Distinct (p ∷ ps) = AllOf (λ q. q.number ≡ p.number → ⊥) ps × Distinct ps
 
+-- a tree that holds no other components than these
+abbrev pub HoldsNoOther : List ℕ → PageTree → Type 0
+HoldsNoOther ks p = AllAmong p.numbers ks × ((n : ℕ) → among n ks ≡ false → p.component n ≡ None)
+
+-- the tree that a client holds is whole for what a rendering met
 abbrev pub HeldTree : (ℕ → List ℕ → List ℕ) → List (List ℕ) → Items → PageTree → Type 0
-HeldTree mark st is p = HoldsNode mark st is p.root × AllOf (HoldsPart mark p.component) (parts is)
+HeldTree mark st is p = HoldsNode mark st is p.root × AllOf (HoldsPart mark p.component) (parts is) × HoldsNoOther (part_numbers (parts is)) p
 
 -- how deep components stand in one another
 abbrev mutual

@@ -1,5 +1,5 @@
 -- The renderings of a process since a join, from the walk's side.
-use Rattle.std.specs.Prelude.{◌≡◌, ℕ, ◌≤◌, List, [], ◌∷◌, Option, Some, None, false, Ok}
+use Rattle.std.specs.Prelude.{◌≡◌, ℕ, ◌+◌, ◌≤◌, List, [], ◌∷◌, Option, Some, None, false, Ok}
 use Rattle.ast_core.specs.Syntax.{Nodes}
 use Rattle.doc_model.specs.Environment.{Stream, Component, Env}
 use Rattle.doc_model.specs.Trace.{Items}
@@ -13,7 +13,7 @@ use Rattle.doc_model.specs.Scopes.{Site}
 use Rattle.doc_model.specs.FullRendering.{full_render}
 use Rattle.doc_model.specs.Tracing.{trace}
 use Rattle.diff_tree.specs.Client.{opened_tree}
-use Rattle.doc_model.specs.Session.{Rendering, latest, merged}
+use Rattle.doc_model.specs.Session.{Rendering, latest, taken}
 use Rattle.doc_model.specs.Table.{IsTable, Honest, SettledAs}
 use Rattle.doc_model.specs.Walk.{Views, Walk, in_state, render_state}
 
@@ -52,7 +52,7 @@ SessionShows = (X : Type 0) (views : Views X) (site : Site) (k : ℕ) (ns : Node
     → Gives (λ p. HeldTree site.mark (cut ns) (latest (rendering_of k t) (renderings_of k ts)).items p
     × ((n : ℕ) → depth (latest (rendering_of k t) (renderings_of k ts)).items ≤ n
     → full_render site k (latest (rendering_of k t) (renderings_of k ts)).env ns ≡ Ok (show_tree site.mark n p)))
-    (merged (opened_tree (whole_tree (cut ns) t.items)) (rendering_of k t) (renderings_of k ts))
+    (taken (k + k) ns (rendering_of k t) (renderings_of k ts))
 
 -- a state after its batches were applied: the containers that were left, and empty batches
 abbrev pub settled_stream : Containers → List ℕ → Stream

@@ -1,6 +1,6 @@
 //! What the definitions keep: each law is the promise of a function that does nothing.
 
-ghost use Rattle.doc_model.specs.Laws.{HeldTreeShows, MergeLeanWhole, WholeTreeShows};
+ghost use Rattle.doc_model.specs.Laws.{HeldTreeShows, MergeLeanWhole, TakenWhole, WholeTreeShows};
 ghost use Rattle.doc_model.specs.Mark.{MarkIsAtRoot};
 ghost use Rattle.doc_model.specs.Session.{FramesShow};
 
@@ -16,8 +16,15 @@ pub fn held_tree_shows()
     ensures { HeldTreeShows }
 {}
 
+/// The whole tree that is sent, taken by a client, is whole.
+#[tactic(auto, using(crate::proofs::Judged::taken_whole))]
+pub fn taken_whole()
+    ensures { TakenWhole }
+{
+}
+
 /// The lean diff, merged into a tree that is whole, gives the new whole tree.
-#[tactic(auto, using(crate::proofs::Pages::lean_page_merges))]
+#[tactic(auto, using(crate::proofs::Judged::merge_lean_whole))]
 pub fn merge_lean_whole()
     ensures { MergeLeanWhole }
 {}
