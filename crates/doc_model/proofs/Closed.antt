@@ -182,7 +182,7 @@ module _ (mark : ℕ → List ℕ → List ℕ) (d : ℕ) (f g : ℕ → Option 
         by_standing r (inl c) = closed_upto d (suc k) g (n ∷ []) (omega arith) c
         by_standing r (inr e) =
             one_closed k g n h.0.1.tree_of (e ∙ h.0.1.is_there)
-                (ap (closed k g) (node_numbers mark st is h.0.1.tree_of h.0.1.holds h.0.0) ∙ r)
+            (ap (closed k g) (node_numbers mark st is h.0.1.tree_of h.0.1.holds h.0.0) ∙ r)
     item_closed (met_stream name rs b st new) k l q h = none_closed k g
 
     rows_closed : (rs : ItemRows) (k : ℕ) → depth_of_rows rs + d ≤ k → GoodRows rs → AllOf Ready (parts_of_rows rs) → closed k g (met_in_rows rs) ≡ true

@@ -64,13 +64,13 @@ module _ (mark : ℕ → List ℕ → List ℕ) (st : List (List ℕ)) (is : Ite
   live_known : AllAmong live (part_numbers (parts is))
   live_known =
       subst (λ ns. AllAmong (reached n m.component ns) (part_numbers (parts is))) (sym root_numbers)
-          (reached_known mark m.component (parts is) there (known is).1 n (met is) (known is).0)
+      (reached_known mark m.component (parts is) there (known is).1 n (met is) (known is).0)
 
   kept_parts : AllOf (HoldsPart mark (dropped n m).component) (parts is)
   kept_parts =
       all_both (λ p. among p.number (reached n m.component (met is)) ≡ true) (HoldsPart mark m.component) (HoldsPart mark (dropped n m).component) (parts is)
-          (λ p e k. subst (HoldsOption mark p) (sym (ap (λ ns. if among p.number (reached n m.component ns) then m.component p.number else None) root_numbers ∙ ap (λ b. if b then m.component p.number else None) e)) k)
-          (parts_reached mark m.component is n l there) h
+      (λ p e k. subst (HoldsOption mark p) (sym (ap (λ ns. if among p.number (reached n m.component ns) then m.component p.number else None) root_numbers ∙ ap (λ b. if b then m.component p.number else None) e)) k)
+      (parts_reached mark m.component is n l there) h
 
   no_other : HoldsNoOther (part_numbers (parts is)) (dropped n m)
   no_other = (only_known live m.numbers (part_numbers (parts is)) live_known, λ k e. by_test k (among k live) refl e)
@@ -107,11 +107,11 @@ merge_lean_whole site k l a b ns is is' p e e' fo di h n d = by_merged (merge_pa
         let stands : (q : Part) → Stands (depth is') p.component m.component q = λ q. by_test q new (among q.number (part_numbers (parts is'))) refl in
         let old : AllOf (λ q. Good q.items × HeldAt site.mark p.component q × Stands (depth is') p.component m.component q) (parts is) =
         all_both (λ q. Good q.items) (HoldsPart site.mark p.component) (λ q. Good q.items × HeldAt site.mark p.component q × Stands (depth is') p.component m.component q) (parts is)
-            (λ q y z. (y, held_at site.mark p.component q z, stands q)) (goods site k a ns is e) h.1 in
+        (λ q y z. (y, held_at site.mark p.component q z, stands q)) (goods site k a ns is e) h.1 in
         let olds : AllOf (λ q. closed n m.component (q.number ∷ []) ≡ true) (parts is) = parts_closed site.mark (depth is') p.component m.component is n d (good_of site k a ns is e) old in
         let news : AllOf (λ q. closed n m.component (q.number ∷ []) ≡ true) (parts is') = own_closed site.mark (cut ns) is' m n d' g gs x.0 x.1 in
         judged_holds site.mark (cut ns) is' m n d' g gs x.0 x.1
-            (ap (closed n m.component) x.3 ∙ changed_closed n m.component (parts is) (parts is') p.numbers (numbers_closed n m.component p.numbers (parts is) h.2.0 olds) news)
+        (ap (closed n m.component) x.3 ∙ changed_closed n m.component (parts is) (parts is') p.numbers (numbers_closed n m.component p.numbers (parts is) h.2.0 olds) news)
       where
         by_test : (q : Part) → AllOf (λ r. closed (depth is') m.component (r.number ∷ []) ≡ true) (parts is') → (c : Bool) → among q.number (part_numbers (parts is')) ≡ c → Stands (depth is') p.component m.component q
         by_test q new true y = inl (at_number (λ r. closed (depth is') m.component (r ∷ []) ≡ true) q.number (parts is') new y)
@@ -147,4 +147,4 @@ taken_whole site k env ns is e di fr frs n d =
     let held : AllOf (HoldsPart site.mark m.component) (parts is) =
     all_both (λ p. part_at p.number (parts is) ≡ Some p) (λ p. Fresh p.items × Good p.items) (HoldsPart site.mark m.component) (parts is) (λ p x y. opened_part site.mark is p x y.0 y.1) (all_found (parts is) di) fg in
     judged_holds site.mark (cut ns) is m n d g gs root held
-        (numbers_closed n m.component (part_numbers (parts is)) (parts is) (own_numbers (parts is)) (own_closed site.mark (cut ns) is m n d g gs root held))
+    (numbers_closed n m.component (part_numbers (parts is)) (parts is) (own_numbers (parts is)) (own_closed site.mark (cut ns) is m n d g gs root held))

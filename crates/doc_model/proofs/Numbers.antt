@@ -47,10 +47,10 @@ contents_none (r ∷ rs) h =
 pub none_after : (b : Batch (Unit {0})) (xs : List Trees) (hs : List (Row Trees)) → AllNone xs → NoneHeld hs → numbers_in_held (held_of (after b xs hs)) ≡ []
 none_after b xs hs h k =
     contents_none (after b xs hs)
-        (sym (contents-seen numbers_in_all (after b xs hs))
-        ∙ ap contents (sym (after-map numbers_in_all b xs hs) ∙ ap (λ ys. after b ys (map {B = Row (List ℕ)} (λ (r : Row Trees). (r.0, numbers_in_all r.1)) hs)) h
-            ∙ ap (after b (map none_of xs)) k ∙ after-map none_of b xs hs)
-        ∙ contents-seen none_of (after b xs hs))
+    (sym (contents-seen numbers_in_all (after b xs hs))
+    ∙ ap contents (sym (after-map numbers_in_all b xs hs) ∙ ap (λ ys. after b ys (map {B = Row (List ℕ)} (λ (r : Row Trees). (r.0, numbers_in_all r.1)) hs)) h
+    ∙ ap (after b (map none_of xs)) k ∙ after-map none_of b xs hs)
+    ∙ contents-seen none_of (after b xs hs))
 
 rows_none : (rs : Rows) → AllNone (row_list rs) → numbers_in_rows rs ≡ []
 rows_none no_rows h = refl

@@ -73,8 +73,8 @@ module _ (mark : ℕ → List ℕ → List ℕ) (g : ℕ → Option Tree) where
     parts_reached no_items k l h = tt
     parts_reached (item i is) k l h =
         all_append (From k (met_at i ++ met is)) (parts_of i) (parts is)
-            (all_weaker (From k (met_at i)) (From k (met_at i ++ met is)) (parts_of i) (λ p e. reach_left g k p.number (met_at i) (met is) e) (item_reached i k (omega arith) (all_left There (parts_of i) (parts is) h)))
-            (all_weaker (From k (met is)) (From k (met_at i ++ met is)) (parts is) (λ p e. reach_right g k p.number (met_at i) (met is) e) (parts_reached is k (omega arith) (all_right There (parts_of i) (parts is) h)))
+        (all_weaker (From k (met_at i)) (From k (met_at i ++ met is)) (parts_of i) (λ p e. reach_left g k p.number (met_at i) (met is) e) (item_reached i k (omega arith) (all_left There (parts_of i) (parts is) h)))
+        (all_weaker (From k (met is)) (From k (met_at i ++ met is)) (parts is) (λ p e. reach_right g k p.number (met_at i) (met is) e) (parts_reached is k (omega arith) (all_right There (parts_of i) (parts is) h)))
 
     item_reached : (i : Item) (k : ℕ) → depth_of i ≤ k → AllOf There (parts_of i) → AllOf (From k (met_at i)) (parts_of i)
     item_reached (met_text r t) k l h = tt
@@ -96,15 +96,15 @@ module _ (mark : ℕ → List ℕ → List ℕ) (g : ℕ → Option Tree) where
     rows_reached no_item_rows k l h = tt
     rows_reached (item_row is rs) k l h =
         all_append (From k (met is ++ met_in_rows rs)) (parts is) (parts_of_rows rs)
-            (all_weaker (From k (met is)) (From k (met is ++ met_in_rows rs)) (parts is) (λ p e. reach_left g k p.number (met is) (met_in_rows rs) e) (parts_reached is k (omega arith) (all_left There (parts is) (parts_of_rows rs) h)))
-            (all_weaker (From k (met_in_rows rs)) (From k (met is ++ met_in_rows rs)) (parts_of_rows rs) (λ p e. reach_right g k p.number (met is) (met_in_rows rs) e) (rows_reached rs k (omega arith) (all_right There (parts is) (parts_of_rows rs) h)))
+        (all_weaker (From k (met is)) (From k (met is ++ met_in_rows rs)) (parts is) (λ p e. reach_left g k p.number (met is) (met_in_rows rs) e) (parts_reached is k (omega arith) (all_left There (parts is) (parts_of_rows rs) h)))
+        (all_weaker (From k (met_in_rows rs)) (From k (met is ++ met_in_rows rs)) (parts_of_rows rs) (λ p e. reach_right g k p.number (met is) (met_in_rows rs) e) (rows_reached rs k (omega arith) (all_right There (parts is) (parts_of_rows rs) h)))
 
     slots_reached : (ss : Slots) (k : ℕ) → depth_of_slots ss ≤ k → AllOf There (parts_of_slots ss) → AllOf (From k (met_in_slots ss)) (parts_of_slots ss)
     slots_reached no_slots k l h = tt
     slots_reached (slot_of b st is ss) k l h =
         all_append (From k (met is ++ met_in_slots ss)) (parts is) (parts_of_slots ss)
-            (all_weaker (From k (met is)) (From k (met is ++ met_in_slots ss)) (parts is) (λ p e. reach_left g k p.number (met is) (met_in_slots ss) e) (parts_reached is k (omega arith) (all_left There (parts is) (parts_of_slots ss) h)))
-            (all_weaker (From k (met_in_slots ss)) (From k (met is ++ met_in_slots ss)) (parts_of_slots ss) (λ p e. reach_right g k p.number (met is) (met_in_slots ss) e) (slots_reached ss k (omega arith) (all_right There (parts is) (parts_of_slots ss) h)))
+        (all_weaker (From k (met is)) (From k (met is ++ met_in_slots ss)) (parts is) (λ p e. reach_left g k p.number (met is) (met_in_slots ss) e) (parts_reached is k (omega arith) (all_left There (parts is) (parts_of_slots ss) h)))
+        (all_weaker (From k (met_in_slots ss)) (From k (met is ++ met_in_slots ss)) (parts_of_slots ss) (λ p e. reach_right g k p.number (met is) (met_in_slots ss) e) (slots_reached ss k (omega arith) (all_right There (parts is) (parts_of_slots ss) h)))
 
 -- only components that were met
 pub all_among_weaker : (ns ks ls : List ℕ) → ((n : ℕ) → among n ks ≡ true → among n ls ≡ true) → AllAmong ns ks → AllAmong ns ls

@@ -97,7 +97,7 @@ at_most : {X : Type 0} (k : ℕ) (t : Turn X) (ts : List (Turn X)) → AtMost k 
 at_most k t [] = refl_le k
 at_most k t (u ∷ us) = (refl_le k, at_most k u us)
 
-pub session_shows : SessionShows
+pub session_shows : (X : Type 0) → SessionShows X
 session_shows X views site k ns t ts honest once once_root j h =
     let b = begins views site k ns honest once once_root t j in
     let r = latest (rendering_of k t) (renderings_of k ts) in

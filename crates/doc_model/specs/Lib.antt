@@ -3,6 +3,7 @@ pub mod Evaluation
 pub mod Printing
 pub mod Calls
 pub mod Scopes
+pub mod Bundle
 pub mod FullRendering
 pub mod Mark
 pub mod Trace

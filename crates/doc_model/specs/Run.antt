@@ -46,8 +46,8 @@ renderings_of k [] = []
 renderings_of k (t ∷ ts) = rendering_of k t ∷ renderings_of k ts
 
 -- for every list of renderings since a join, the merged frames are defined and whole, and show the full rendering of the latest state
-abbrev pub SessionShows : Type 1
-SessionShows = (X : Type 0) (views : Views X) (site : Site) (k : ℕ) (ns : Nodes) (t : Turn X) (ts : List (Turn X))
+abbrev pub SessionShows : Type 0 → Type 0
+SessionShows X = (views : Views X) (site : Site) (k : ℕ) (ns : Nodes) (t : Turn X) (ts : List (Turn X))
     → Honest views → Once (streams_in ns) → ((m : List ℕ) → Once (streams_in (site.root m))) → Joins views site k ns t → Turns views site k ns t ts
     → Gives (λ p. HeldTree site.mark (cut ns) (latest (rendering_of k t) (renderings_of k ts)).items p
     × ((n : ℕ) → depth (latest (rendering_of k t) (renderings_of k ts)).items ≤ n

@@ -42,8 +42,8 @@ pub record LeftBehind (site : Site) (ns : Nodes) (cs : List Component) (is : Ite
   pub none_left : (n : ℕ) → part_at n (parts is) ≡ None → (s : List ℕ) → f n s ≡ []
 
 -- the facts of the induction over a journal: after a rendering that follows, the new state follows the old one, and no two components share a number
-abbrev pub NextFollows : Type 1
-NextFollows = (X : Type 0) (views : Views X) (site : Site) (k l : ℕ) (a e : Env) (ns : Nodes) (is is' : Items) (root : Containers) (f : ℕ → Containers) (s t : Walk X)
+abbrev pub NextFollows : Type 0 → Type 0
+NextFollows X = (views : Views X) (site : Site) (k l : ℕ) (a e : Env) (ns : Nodes) (is is' : Items) (root : Containers) (f : ℕ → Containers) (s t : Walk X)
     → Honest views → IsTable s.next a.components → trace site l a ns ≡ Ok is → LeftBehind site ns a.components is root f
     → SettledAs f a.components s.components → Based root e.streams → render_state views site k e ns s ≡ Ok (is', t)
     → Follows site ns a (in_state t.components e) is × Distinct (parts is') × IsTable t.next t.components

@@ -200,8 +200,8 @@ abbrev pub walked : {X : Type 0} → Views X → Site → ℕ → Env → Nodes 
 walked views site k env ns s = on_res (λ p. p.1) (render_state views site k env ns s)
 
 -- one pass raises exactly where the walk, and then the rendering of the state that it leaves, raise; its trace is the trace of that state
-abbrev pub OnePass : Type 1
-OnePass = (X : Type 0) (views : Views X) (site : Site) (k : ℕ) (env : Env) (ns : Nodes) (s : Walk X)
+abbrev pub OnePass : Type 0 → Type 0
+OnePass X = (views : Views X) (site : Site) (k : ℕ) (env : Env) (ns : Nodes) (s : Walk X)
     → render_state views site k env ns s ≡ then_do (walked views site k env ns s) (λ s'. on_res (λ is. (is, s')) (trace site k (in_state s'.components env) ns))
 
 -- the walk alone, and what it leaves
@@ -209,7 +209,7 @@ abbrev pub component_walk : {X : Type 0} → Views X → Site → ℕ → Env �
 component_walk views site k env ns s = on_res (λ p. at_end_of_walk p.1) (visit views site k env ns (record s { met = [] }))
 
 -- a rendering in one pass does not raise exactly where the walk alone, and then the trace of the state that it leaves, do not raise; and it gives that state and that trace
-abbrev pub PassIsWalkAndTrace : Type 1
-PassIsWalkAndTrace = (X : Type 0) (views : Views X) (site : Site) (k : ℕ) (env : Env) (ns : Nodes) (s : Walk X) (is : Items) (t : Walk X)
+abbrev pub PassIsWalkAndTrace : Type 0 → Type 0
+PassIsWalkAndTrace X = (views : Views X) (site : Site) (k : ℕ) (env : Env) (ns : Nodes) (s : Walk X) (is : Items) (t : Walk X)
     → (render_state views site k env ns s ≡ Ok (is, t) → (component_walk views site k env ns s ≡ Ok t) × (trace site k (in_state t.components env) ns ≡ Ok is))
     × ((component_walk views site k env ns s ≡ Ok t) × (trace site k (in_state t.components env) ns ≡ Ok is) → render_state views site k env ns s ≡ Ok (is, t))
