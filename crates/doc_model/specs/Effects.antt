@@ -10,7 +10,7 @@ use Rattle.diff_tree.specs.Spelling.{Pushed}
 use Rattle.doc_model.specs.Environment.{Stream, with_key}
 use Rattle.doc_model.specs.Evaluation.{Res, then_do, on_res, or_raise, value_depth}
 use Rattle.doc_model.specs.Calls.{has_slot}
-use Rattle.doc_model.specs.Json.{json_of_value}
+use Rattle.value_core.specs.Json.{json_of_value}
 use Rattle.doc_model.specs.Walk.{Owner, Views}
 
 pub data Effect : Type 0 where

@@ -2,8 +2,8 @@
 use Rattle.std.specs.Prelude.{ℕ, suc, max, ℤ, pos, negsuc, ◌+ℤ◌, ◌-ℤ◌, ◌*ℤ◌, neg_ℤ, int_lt, int_div, int_rem, ◌==◌, List, [], ◌∷◌, ◌++◌, Option, Some, None, Result, Ok, Err, Bool, true, false, not, if◌then◌else◌, codes, ◌^◌, nat_lt}
 use Rattle.std.specs.Ordering.{nat_cmp, int_eq, match_ordering}
 use Rattle.std.specs.Cmp.Lexicographic.{slice_cmp}
-use Rattle.std.specs.Fmt.{signed_decimal}
 use Rattle.value_core.specs.Value.{Value, nil, boolean, whole_number, text, atom, list, tuple, map_of, slot, Values, no_values, value, Assigns, no_assigns, assign, same}
+use Rattle.value_core.specs.Print.{text_of_value}
 use Rattle.value_core.specs.declared.raise.Raise.{Raise}
 use Rattle.value_core.specs.declared.raise.Raise.TheVariants.{NoAssign, NoVariable, NoKey, BadArgument, BadBoolean, Range, NotPrintable, Deep}
 use Rattle.ast_core.specs.declared.operators.UnaryOp.{UnaryOp}
@@ -68,16 +68,7 @@ is_true nil = false
 is_true (boolean false) = false
 is_true _ = true
 
--- the text of a value; a list, a tuple, a map and a slot have none
-abbrev pub text_of_value : Value → Option (List ℕ)
-text_of_value nil = Some []
-text_of_value (boolean true) = Some (codes "true")
-text_of_value (boolean false) = Some (codes "false")
-text_of_value (whole_number n) = Some (signed_decimal n)
-text_of_value (text t) = Some t
-text_of_value (atom t) = Some t
-text_of_value _ = None
-
+-- the text of a value, where it has one
 abbrev pub printed : Value → Res (List ℕ)
 printed v = or_raise (text_of_value v) NotPrintable
 

@@ -14,7 +14,6 @@ pub mod Holding
 pub mod Left
 pub mod Components
 pub mod Walk
-pub mod Json
 pub mod Effects
 pub mod Once
 pub mod Table

@@ -4,7 +4,7 @@ use Rattle.std.specs.Str.{bytes_eq}
 use Rattle.serde_json.specs.Data.{Data, null, boolean, number, string, array, object, unsigned, negative, float, Num, Items, no_items, item, Members, no_members, member}
 use Rattle.serde_json.specs.Read.{read}
 use Rattle.value_core.specs.Value.{Value, map_of, no_assigns}
-use Rattle.doc_model.specs.Json.{value_of_json}
+use Rattle.value_core.specs.Json.{value_of_json}
 
 -- join reference, reference and topic
 pub record MessageHead : Type 0 where
