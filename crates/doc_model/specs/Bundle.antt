@@ -15,14 +15,17 @@ abbrev pub root_in : List Module → List ℕ → List ℕ
 root_in [] m = []
 root_in (d ∷ ds) m = if bytes_eq m d.name then d.template else root_in ds m
 
+-- whether a slot body has this number
 abbrev pub has_body_in : List Body → ℕ → Bool
 has_body_in [] n = false
 has_body_in (slot_body m p ns ∷ bs) n = if n == m then true else has_body_in bs n
 
+-- the slot body of a number
 abbrev pub body_in : List Body → ℕ → SlotBody
 body_in [] n = record { pattern = any; nodes = no_nodes }
 body_in (slot_body m p ns ∷ bs) n = if n == m then record { pattern = p; nodes = ns } else body_in bs n
 
+-- the site of a linked bundle
 abbrev pub site_of : Linked → Site
 site_of l = record {
   template = template_in l.templates;

@@ -42,14 +42,17 @@ abbrev mutual
   parts_of_slots no_slots = []
   parts_of_slots (slot_of b st is ss) = parts is ++ parts_of_slots ss
 
+-- the first part of a number
 abbrev pub part_at : ℕ → List Part → Option Part
 part_at n [] = None
 part_at n (p ∷ ps) = if n == p.number then Some p else part_at n ps
 
+-- the whole tree of a part
 abbrev pub option_tree : Option Part → Option Tree
 option_tree None = None
 option_tree (Some p) = Some (node p.statics (whole_places p.items))
 
+-- the numbers of parts
 abbrev pub part_numbers : List Part → List ℕ
 part_numbers [] = []
 part_numbers (p ∷ ps) = p.number ∷ part_numbers ps
@@ -68,14 +71,17 @@ abbrev pub lean_part : Option Part → Part → Option Change
 lean_part None p = Some (write (node p.statics (whole_places p.items)))
 lean_part (Some q) p = unless_empty (lean_places q.items p.items)
 
+-- a change under its number, where there is one
 abbrev pub numbered : ℕ → Option Change → List (ℕ × Change) → List (ℕ × Change)
 numbered n None cs = cs
 numbered n (Some c) cs = (n, c) ∷ cs
 
+-- the changes of all parts that are met now
 abbrev pub lean_parts : List Part → List Part → List (ℕ × Change)
 lean_parts old [] = []
 lean_parts old (p ∷ ps) = numbered p.number (lean_part (part_at p.number old) p) (lean_parts old ps)
 
+-- the lean diff between two renderings: the root, and each component
 abbrev pub lean_diff : Items → Items → PageDiff
 lean_diff is is' = record { root = lean_places is is'; components = lean_parts (parts is) (parts is') }
 
@@ -91,6 +97,7 @@ module _ (mark : ℕ → List ℕ → List ℕ) where
   abbrev pub HoldsPart : (ℕ → Option Tree) → Part → Type 0
   HoldsPart f p = HoldsOption p (f p.number)
 
+-- a fact of each part
 abbrev pub AllOf : (Part → Type 0) → List Part → Type 0
 AllOf P [] = Unit {0}
 AllOf P (p ∷ ps) = P p × AllOf P ps

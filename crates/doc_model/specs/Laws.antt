@@ -11,6 +11,7 @@ use Rattle.ast_core.specs.Places.{cut}
 use Rattle.diff_tree.specs.Client.{PageTree, show_tree, merge_diff, judged, opened_tree}
 use Rattle.doc_model.specs.Components.{HeldTree, Distinct, AllOf, parts, depth, whole_tree, lean_diff, Follows}
 
+-- something is given, and the fact holds of it
 abbrev pub Gives : {A : Type 0} → (A → Type 0) → Option A → Type 0
 Gives P None = ⊥
 Gives P (Some x) = P x
@@ -21,6 +22,7 @@ WholeTreeShows = (site : Site) (k : ℕ) (env : Env) (ns : Nodes) (is : Items) �
     → Fresh is → AllOf (λ p. Fresh p.items) (parts is) → (n : ℕ) → depth is ≤ n
     → full_render site k env ns ≡ Ok (show_tree site.mark n (whole_tree (cut ns) is))
 
+-- a tree that a client holds whole shows the full rendering
 abbrev pub HeldTreeShows : Type 0
 HeldTreeShows = (site : Site) (k : ℕ) (env : Env) (ns : Nodes) (is : Items) (p : PageTree) → trace site k env ns ≡ Ok is
     → HeldTree site.mark (cut ns) is p → (n : ℕ) → depth is ≤ n

@@ -24,6 +24,7 @@ pub record Turn (X : Type 0) : Type 0 where
   pub items : Items
   pub after : Walk X
 
+-- the turn is one rendering
 abbrev pub Renders : {X : Type 0} → Views X → Site → ℕ → Nodes → Turn X → Type 0
 Renders views site k ns t = render_state views site k t.env ns t.before ≡ Ok (t.items, t.after)
 
@@ -38,9 +39,11 @@ Turns views site k ns t (u ∷ us) =
     Renders views site k ns u × (u.before.next ≡ t.after.next) × SettledAs (left_to site.mark t.items) t.after.components u.before.components × Based (left site.mark t.items) u.env.streams
     × Turns views site k ns u us
 
+-- what a turn met, in the state that it left
 abbrev pub rendering_of : {X : Type 0} → ℕ → Turn X → Rendering
 rendering_of k t = record { level = k; env = in_state t.after.components t.env; items = t.items }
 
+-- the same of each turn
 abbrev pub renderings_of : {X : Type 0} → ℕ → List (Turn X) → List Rendering
 renderings_of k [] = []
 renderings_of k (t ∷ ts) = rendering_of k t ∷ renderings_of k ts
@@ -58,14 +61,17 @@ SessionShows X = (views : Views X) (site : Site) (k : ℕ) (ns : Nodes) (t : Tur
 abbrev pub settled_stream : Containers → List ℕ → Stream
 settled_stream f s = record { shown = f s; waiting = record { reset = false; deletes = []; inserts = [] } }
 
+-- components after their batches were applied
 abbrev pub settled_components : (ℕ → Containers) → List Component → List Component
 settled_components f [] = []
 settled_components f (c ∷ cs) = record c { streams = settled_stream (f c.number) } ∷ settled_components f cs
 
+-- an owner after its batches were applied
 abbrev pub settled_streams : Containers → Option (List ℕ → Stream) → Option (List ℕ → Stream)
 settled_streams f None = None
 settled_streams f (Some g) = Some (settled_stream f)
 
+-- a scope after all batches were applied
 abbrev pub settled_env : Containers → (ℕ → Containers) → Env → Env
 settled_env root f env = record { assigns = env.assigns; variables = env.variables; streams = settled_streams root env.streams; components = settled_components f env.components }
 

@@ -13,11 +13,13 @@ use Rattle.diff_tree.specs.Client.{opened_tree, judged, PageTree, show_tree, mer
 use Rattle.doc_model.specs.Components.{HeldTree, Distinct, AllOf, parts, depth, whole_tree, lean_diff, Follows}
 use Rattle.doc_model.specs.Laws.{Gives}
 
+-- one rendering: its levels, its scope, and what it met
 pub record Rendering : Type 0 where
   pub level : ℕ
   pub env : Env
   pub items : Items
 
+-- what it met is the trace, and no number is met twice
 abbrev pub IsRendering : Site → Nodes → Rendering → Type 0
 IsRendering site ns r = (trace site r.level r.env ns ≡ Ok r.items) × Distinct (parts r.items)
 
@@ -25,10 +27,12 @@ IsRendering site ns r = (trace site r.level r.env ns ≡ Ok r.items) × Distinct
 abbrev pub Begins : Site → Nodes → Rendering → Type 0
 Begins site ns r = IsRendering site ns r × Fresh r.items × AllOf (λ p. Fresh p.items) (parts r.items)
 
+-- each rendering follows the one before
 abbrev pub GoesOn : Site → Nodes → Rendering → List Rendering → Type 0
 GoesOn site ns r [] = Unit {0}
 GoesOn site ns r (q ∷ qs) = IsRendering site ns q × Follows site ns r.env q.env r.items × GoesOn site ns q qs
 
+-- the last of them
 abbrev pub latest : Rendering → List Rendering → Rendering
 latest r [] = r
 latest r (q ∷ qs) = latest q qs

@@ -21,6 +21,7 @@ IsTable n (c ∷ cs) = (c.number < n) × ((d : Component) → Lives d cs → (d.
 abbrev pub WasThere : List Component → Component → Type 0
 WasThere cs d = (c : Component) × Lives c cs × (c.number ≡ d.number) × (c.module_name ≡ d.module_name) × (c.id ≡ d.id) × ((x : List ℕ) → (d.streams x).shown ≡ (c.streams x).shown)
 
+-- a component that was not there begins with empty containers
 abbrev pub IsNew : ℕ → List Component → Component → Type 0
 IsNew n cs d = (n ≤ d.number) × (find d.module_name d.id cs ≡ None) × ((x : List ℕ) → (d.streams x).shown ≡ [])
 
