@@ -1,3 +1,5 @@
 pub mod Name
 pub mod Template
 pub mod Reading
+pub mod Parts
+pub mod Rendering

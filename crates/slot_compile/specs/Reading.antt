@@ -1,6 +1,7 @@
 -- Which texts spell a template, and how its pieces are found.
 use Rattle.std.specs.Prelude.{◌≡◌, ◌≢◌, ◌⊎◌, ◌<◌, ℕ, List, [], ◌∷◌, ◌++◌, length, codes, Bool, true, false, not, ◌&&◌, ◌==◌, nat_lt, if◌then◌else◌, Option, Some, None, option_map, option_and_then, All}
 use Rattle.std.specs.List.{list_all, slice_split, before_first, after_first, position_or_len}
+use Rattle.std.specs.Str.{bytes_eq}
 use Rattle.slot_compile.specs.declared.template.Node.{Node}
 use Rattle.slot_compile.specs.declared.template.Node.TheVariants as node
 use Rattle.slot_compile.specs.Name.{is_name}
@@ -71,3 +72,22 @@ pieces_of_parts (text ∷ parts) = if lacks 60 text then with_holes (text_piece 
 
 abbrev pub pieces_of : List ℕ → Option (List Node)
 pieces_of text = pieces_of_parts (slice_split (λ b. b == 123) text)
+
+-- what stands behind a text's front
+abbrev pub behind : List ℕ → List ℕ → Option (List ℕ)
+behind [] text = Some text
+behind (c ∷ cs) [] = None
+behind (c ∷ cs) (b ∷ bs) = if b == c then behind cs bs else None
+
+-- what stands before a text's end
+abbrev pub before_end : List ℕ → List ℕ → Option (List ℕ)
+before_end end [] = if bytes_eq [] end then Some [] else None
+before_end end (b ∷ bs) = if bytes_eq (b ∷ bs) end then Some [] else option_map (λ front. b ∷ front) (before_end end bs)
+
+-- the content of a paragraph that is the whole text
+abbrev pub content_of : List ℕ → Option (List ℕ)
+content_of text = option_and_then (before_end (codes "</p>")) (behind (codes "<p>") text)
+
+-- the nodes of a template
+abbrev pub template_of : List ℕ → Option (List Node)
+template_of text = elim (content_of text) [ None ↦ pieces_of text | Some content ↦ option_map paragraph (pieces_of content) ]

@@ -1,0 +1,4 @@
+pub mod Counts
+pub mod Manifests
+pub mod Held
+pub mod Texts

@@ -1,0 +1,14 @@
+//! Bundles: folders with a manifest and a template.
+#![tactic(auto)]
+
+mod bundle;
+mod fault;
+mod files;
+mod loading;
+mod manifest;
+#[cfg(test)]
+mod tests;
+
+pub use bundle::{Bundle, Step, Steps};
+pub use fault::LoadFault;
+pub use loading::load;
