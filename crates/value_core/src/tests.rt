@@ -5,7 +5,6 @@ use crate::{
 };
 use serde_json::Value as Json;
 use std::alloc::Global;
-use std::process::Abort;
 use std::test::Fail;
 use text_core::{OutOfMemory, Seq, Text};
 
@@ -67,25 +66,12 @@ fn json_nests_a_hundred_deep(rt: HostRuntime) -> Result<(), Fail> {
     Ok(())
 }
 
-// A value prints as this text, and as this one in HTML.
-fn prints(rt: &impl Abort, alloc: Global, value: Value, text: &str, html: &str) {
-    let printed = to_text(alloc, &value).expect(rt, text);
-    assert!(rt; printed.as_str() == text, "for {text}");
-    let printed = to_html(alloc, &value).expect(rt, html);
-    assert!(rt; printed.as_str() == html, "for {html}");
-}
-
 #[test]
-fn values_print(rt: HostRuntime) -> Result<(), Fail> {
+fn a_text_prints_escaped(rt: HostRuntime) -> Result<(), Fail> {
     let alloc = rt.alloc();
-    prints(&rt, alloc, Value::Nil, "", "");
-    prints(&rt, alloc, Value::Bool(true), "true", "true");
-    prints(&rt, alloc, Value::Bool(false), "false", "false");
-    prints(&rt, alloc, Value::Int(-120), "-120", "-120");
-    let text = Text::copy_of(alloc, "a < b")?;
-    prints(&rt, alloc, Value::Text(text), "a < b", "a &lt; b");
-    let atom = Text::copy_of(alloc, "ok")?;
-    prints(&rt, alloc, Value::Atom(atom), "ok", "ok");
+    let value = Value::Text(Text::copy_of(alloc, "a < b")?);
+    assert_eq!(rt; to_text(alloc, &value)?.as_str(), "a < b");
+    assert_eq!(rt; to_html(alloc, &value)?.as_str(), "a &lt; b");
     Ok(())
 }
 
