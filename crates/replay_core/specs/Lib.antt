@@ -1,2 +1,5 @@
 pub mod Script
 pub mod Reading
+pub mod Player
+pub mod Output
+pub mod Ends

@@ -2,11 +2,13 @@
 #![tactic(auto)]
 
 mod cutting;
+mod laws;
 mod name;
 mod read;
 mod template;
 
 pub use cutting::{Compiled, compile};
+pub use laws::statics_weave;
 pub use name::is_name;
 pub use read::{TemplateFault, read_template};
 pub use template::{Node, Nodes};

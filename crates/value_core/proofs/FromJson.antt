@@ -93,8 +93,8 @@ pub reads_on : (m : ℕ) (js : List Json) (i : ℕ) (j : Json) (vs : List Value)
 reads_on m js i j vs v whole h is read so_far =
     let rest : Option Values = values_within m (items_view (drop (i + 1) js)) in
     let front : values_within m (items_view (drop i js)) ≡ option_map (value (view v)) rest =
-      ap (λ l. values_within m (items_view l)) (cons_at js i j h is) ∙ values_within_item m (json_view j) (items_view (drop (i + 1) js))
-      ∙ ap (option_and_then (λ w. option_map (value w) rest)) read in
+    ap (λ l. values_within m (items_view l)) (cons_at js i j h is) ∙ values_within_item m (json_view j) (items_view (drop (i + 1) js))
+    ∙ ap (option_and_then (λ w. option_map (value w) rest)) read in
     ap (λ l. option_map (add_values l) rest) (map-append view vs (v ∷ []))
     ∙ as_well _ _ rest (add_values_snoc (map view vs) (view v))
     ∙ sym (through (add_values (map view vs)) (value (view v)) rest)
@@ -106,8 +106,8 @@ pub reads_none : (m : ℕ) (js : List Json) (i : ℕ) (j : Json) (vs : List mode
 reads_none m js i j vs whole h is none so_far =
     let rest : Option Values = values_within m (items_view (drop (i + 1) js)) in
     let front : values_within m (items_view (drop i js)) ≡ None =
-      ap (λ l. values_within m (items_view l)) (cons_at js i j h is) ∙ values_within_item m (json_view j) (items_view (drop (i + 1) js))
-      ∙ ap (option_and_then (λ w. option_map (value w) rest)) none in
+    ap (λ l. values_within m (items_view l)) (cons_at js i j h is) ∙ values_within_item m (json_view j) (items_view (drop (i + 1) js))
+    ∙ ap (option_and_then (λ w. option_map (value w) rest)) none in
     sym so_far ∙ ap (option_map (add_values vs)) front
 
 -- one more member was read
@@ -117,7 +117,7 @@ pub members_on : (m : ℕ) (k : String Global) (j : Json) (js : List (String Glo
 members_on m k j js es name v whole same read so_far =
     let rest : Option Assigns = assigns_within m (members_view js) in
     let front : assigns_within m (members_view ((k, j) ∷ js)) ≡ option_map (assign (string_bytes k) (view v)) rest =
-      assigns_within_member m (string_bytes k) (json_view j) (members_view js) ∙ ap (option_and_then (λ w. option_map (assign (string_bytes k) w) rest)) read in
+    assigns_within_member m (string_bytes k) (json_view j) (members_view js) ∙ ap (option_and_then (λ w. option_map (assign (string_bytes k) w) rest)) read in
     ap (λ n. option_map (add_assigns (map (on_value view) (es ++ entry n v ∷ []))) rest) same
     ∙ ap (λ l. option_map (add_assigns l) rest) (map-append (on_value view) es (entry (string_bytes k) v ∷ []))
     ∙ as_well _ _ rest (add_assigns_snoc (map (on_value view) es) (entry (string_bytes k) (view v)))
@@ -129,7 +129,7 @@ pub members_none : (m : ℕ) (k : String Global) (j : Json) (js : List (String G
 members_none m k j js es whole none so_far =
     let rest : Option Assigns = assigns_within m (members_view js) in
     let front : assigns_within m (members_view ((k, j) ∷ js)) ≡ None =
-      assigns_within_member m (string_bytes k) (json_view j) (members_view js) ∙ ap (option_and_then (λ w. option_map (assign (string_bytes k) w) rest)) none in
+    assigns_within_member m (string_bytes k) (json_view j) (members_view js) ∙ ap (option_and_then (λ w. option_map (assign (string_bytes k) w) rest)) none in
     sym so_far ∙ ap (option_map (add_assigns es)) front
 
 -- the keys of members

@@ -66,7 +66,7 @@ pub writes_on : (vs : List Value) (i : ℕ) (v : Value) (js : List Json) (j : Js
 writes_on vs i v js j whole h is written so_far =
     let rest : Option Items = json_of_values (values_view (drop (i + 1) vs)) in
     let front : json_of_values (values_view (drop i vs)) ≡ option_map (item (json_view j)) rest =
-      ap (λ l. json_of_values (values_view l)) (cons_at vs i v h is) ∙ ap (option_and_then (λ d. option_map (item d) rest)) written in
+    ap (λ l. json_of_values (values_view l)) (cons_at vs i v h is) ∙ ap (option_and_then (λ d. option_map (item d) rest)) written in
     ap (λ l. option_map (add_items l) rest) (map-append json_view js (j ∷ []))
     ∙ as_well _ _ rest (add_items_snoc (map json_view js) (json_view j))
     ∙ sym (through (add_items (map json_view js)) (item (json_view j)) rest)
@@ -77,7 +77,7 @@ pub writes_none : (vs : List Value) (i : ℕ) (v : Value) (ds : List Data) (whol
 writes_none vs i v ds whole h is none so_far =
     let rest : Option Items = json_of_values (values_view (drop (i + 1) vs)) in
     let front : json_of_values (values_view (drop i vs)) ≡ None =
-      ap (λ l. json_of_values (values_view l)) (cons_at vs i v h is) ∙ ap (option_and_then (λ d. option_map (item d) rest)) none in
+    ap (λ l. json_of_values (values_view l)) (cons_at vs i v h is) ∙ ap (option_and_then (λ d. option_map (item d) rest)) none in
     sym so_far ∙ ap (option_map (add_items ds)) front
 
 -- one more member was written
@@ -88,21 +88,22 @@ pub puts_on : (es : List (KeyValue Value)) (i : ℕ) (e : KeyValue Value) (ms : 
 puts_on es i e ms d whole h is written in_order so_far =
     let rest : Option Members = json_of_assigns (assigns_view (drop (i + 1) es)) in
     let front : json_of_assigns (assigns_view (drop i es)) ≡ option_map (member e.key d) rest =
-      ap (λ l. json_of_assigns (assigns_view l)) (cons_at es i e h is) ∙ ap (option_and_then (λ c. option_map (member e.key c) rest)) written in
+    ap (λ l. json_of_assigns (assigns_view l)) (cons_at es i e h is) ∙ ap (option_and_then (λ c. option_map (member e.key c) rest)) written in
     let ordered : ascend (names ms ++ e.key ∷ keys (drop (i + 1) es)) ≡ true = subst (λ l. ascend (names ms ++ keys l) ≡ true) (cons_at es i e h is) in_order in
-    let last : put e.key d ms ≡ add_members ms (member e.key d no_members) = put_last e.key d ms (keys (drop (i + 1) es)) ordered in
-    (ap (λ l. option_map (add_members l) rest) last
-    ∙ as_well _ _ rest (add_members_last ms e.key d)
-    ∙ sym (through (add_members ms) (member e.key d) rest)
-    ∙ ap (option_map (add_members ms)) (sym front) ∙ so_far,
-    ap (λ l. ascend (names l ++ keys (drop (i + 1) es))) last ∙ ap ascend (names_last ms e.key d (keys (drop (i + 1) es))) ∙ ordered)
+    let last : put e.key d ms ≡ add_members ms (member e.key d no_members) = put_last e.key d ms (keys (drop (i + 1) es)) ordered in (
+      ap (λ l. option_map (add_members l) rest) last
+          ∙ as_well _ _ rest (add_members_last ms e.key d)
+          ∙ sym (through (add_members ms) (member e.key d) rest)
+          ∙ ap (option_map (add_members ms)) (sym front) ∙ so_far,
+      ap (λ l. ascend (names l ++ keys (drop (i + 1) es))) last ∙ ap ascend (names_last ms e.key d (keys (drop (i + 1) es))) ∙ ordered,
+    )
 
 pub puts_none : (es : List (KeyValue Value)) (i : ℕ) (e : KeyValue Value) (ms : Members) (whole : Option Members) → i < length es → e ≡ get_or es i e
     → json_of_value (view e.value) ≡ None → option_map (add_members ms) (json_of_assigns (assigns_view (drop i es))) ≡ whole → whole ≡ None
 puts_none es i e ms whole h is none so_far =
     let rest : Option Members = json_of_assigns (assigns_view (drop (i + 1) es)) in
     let front : json_of_assigns (assigns_view (drop i es)) ≡ None =
-      ap (λ l. json_of_assigns (assigns_view l)) (cons_at es i e h is) ∙ ap (option_and_then (λ c. option_map (member e.key c) rest)) none in
+    ap (λ l. json_of_assigns (assigns_view l)) (cons_at es i e h is) ∙ ap (option_and_then (λ c. option_map (member e.key c) rest)) none in
     sym so_far ∙ ap (option_map (add_members ms)) front
 
 -- all items were written

@@ -5,5 +5,4 @@ ghost use Rattle.value_core.specs.Value.{Value, same as same_value};
 /// Two values are the same exactly where they are equal.
 pub fn same_is_equality()
     ensures { (a b : Value) → IsTrue (same_value a b) ↔ (a ≡ b) }
-{
-}
+{}

@@ -8,10 +8,12 @@ mod nesting;
 mod printing;
 mod raise;
 mod reading;
+#[cfg(test)]
+mod tests;
 mod value;
 mod writing;
 
-pub use copying::copy;
+pub use copying::{copy, copy_assigns, copy_values};
 pub use equality::same;
 pub use laws::same_is_equality;
 pub use nesting::depth;

@@ -82,7 +82,11 @@ fn read_items(alloc: Global, items: &Vec<Json>, levels: u32) -> Result<Values, J
 }
 
 #[cycle(read)]
-fn read_members(alloc: Global, members: &Map<String, Json>, levels: u32) -> Result<Assigns, JsonFault>
+fn read_members(
+    alloc: Global,
+    members: &Map<String, Json>,
+    levels: u32,
+) -> Result<Assigns, JsonFault>
     ensures ok { IfOk result (λ es. assigns_within levels (members_view members.now.entries) ≡ Some (assigns_view es)) }
     ensures refused { IsErrOf result JsonFault.NoValue → assigns_within levels (members_view members.now.entries) ≡ None }
 {

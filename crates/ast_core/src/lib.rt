@@ -1,0 +1,17 @@
+//! The syntax of templates: expressions, patterns and nodes.
+#![tactic(auto)]
+
+mod expr;
+mod linked;
+mod node;
+mod operators;
+mod pattern;
+
+pub use expr::{Expr, Exprs, Operand, Pair, Pairs, Parts, PathStep, PipeCall, TextPart};
+pub use linked::{Bodies, Linked, Module, Modules, Template, Templates};
+pub use node::{
+    Attribute, AttributeValue, Attributes, Clause, Clauses, Entries, Entry, Generator, Location,
+    Node, Nodes, Place, SlotBody,
+};
+pub use operators::{BinaryOp, Function, UnaryOp};
+pub use pattern::{Pattern, PatternPair, PatternPairs, Patterns};

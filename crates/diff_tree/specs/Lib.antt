@@ -1,0 +1,6 @@
+pub mod Container
+pub mod Tree
+pub mod Client
+pub mod Mark
+pub mod Spelling
+pub mod Frame

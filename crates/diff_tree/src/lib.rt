@@ -1,0 +1,2 @@
+//! Trees, diffs and what a client makes of them.
+#![tactic(auto)]

@@ -1,0 +1,162 @@
+-- The journal of a process: its entries, what they replay to, and when each was allowed.
+use Rattle.std.specs.Prelude.{◌≡◌, ℕ, ◌+◌, ◌<◌, ◌≤◌, List, [], ◌∷◌, ◌++◌, length, map, Option, Some, None, Ok, Bool, true, false, if◌then◌else◌, codes}
+use Rattle.serde_json.specs.Written.{compact_text}
+use Rattle.ast_core.specs.Places.{cut}
+use Rattle.diff_tree.specs.Client.{PageTree, PageDiff, show_tree}
+use Rattle.diff_tree.specs.Spelling.{Pushed}
+use Rattle.diff_tree.specs.Frame.{Frame, FrameBody, rendered, frame_json, client_takes_all}
+use Rattle.doc_model.specs.Components.{HeldTree, whole_tree, lean_diff}
+use Rattle.doc_model.specs.Effects.{Action, Waiting, heard, mailed, sent, inbox_limit}
+use Rattle.doc_model.specs.Process.{World, Page, ProcessState, begin_state, page_text, Stepped, handled_front, goes_down, fault_frame, frame_of}
+
+-- why a process is put down: a limit, or want of memory
+pub data DownReason : Type 0 where
+  limit_met : DownReason
+  memory_wanted : DownReason
+
+-- frames are bytes here
+pub data Entry : Type 0 where
+  text_heard : List ℕ → Entry
+  mail_heard : List ℕ → ℕ → List ℕ → Entry
+  handled : List (List ℕ) → Entry
+  fell : List (List ℕ) → Entry
+  overrun : DownReason → List (List ℕ) → Entry
+
+-- a state with its inbox
+pub record Standing : Type 0 where
+  pub state : ProcessState
+  pub inbox : List Waiting
+
+abbrev pub begin_standing : Standing
+begin_standing = record { state = begin_state; inbox = [] }
+
+abbrev pub without_front : List Waiting → List Waiting
+without_front [] = []
+without_front (m ∷ ms) = ms
+
+abbrev pub fault_frames : Option Page → Option (List ℕ) → List Frame
+fault_frames None reason = []
+fault_frames (Some p) reason = fault_frame p reason ∷ []
+
+abbrev pub down_reason : DownReason → List ℕ
+down_reason limit_met = codes "overrun"
+down_reason memory_wanted = codes "out of memory"
+
+-- one entry: what comes is put at the back of the inbox, Handled takes its front; no frame of the entry is looked at
+abbrev pub process_step : World → Standing → Entry → Stepped
+process_step w s (text_heard t) = record { state = s.state; inbox = s.inbox ++ heard t ∷ []; frames = []; actions = []; crashed = false }
+process_step w s (mail_heard t g v) = record { state = s.state; inbox = s.inbox ++ mailed t g v ∷ []; frames = []; actions = []; crashed = false }
+process_step w s (handled fs) = handled_front w s.state s.inbox
+process_step w s (fell fs) = goes_down s.state.generation (without_front s.inbox) (fault_frames s.state.page (Some (codes "out of memory"))) false
+process_step w s (overrun why fs) = goes_down s.state.generation s.inbox (fault_frames s.state.page (Some (down_reason why))) false
+
+abbrev pub after_step : Stepped → Standing
+after_step t = record { state = t.state; inbox = t.inbox }
+
+-- the fold of the step over the journal
+abbrev pub replay_from : World → Standing → List Entry → Standing
+replay_from w s [] = s
+replay_from w s (e ∷ es) = replay_from w (after_step (process_step w s e)) es
+
+abbrev pub replay_journal : World → List Entry → Standing
+replay_journal w es = replay_from w begin_standing es
+
+-- the frames of an entry, as they are defined and as bytes
+abbrev pub frames_of_entry : World → Standing → Entry → List Frame
+frames_of_entry w s e = (process_step w s e).frames
+
+abbrev pub spelled : List Frame → List (List ℕ)
+spelled fs = map (λ f. compact_text (frame_json f)) fs
+
+abbrev pub written_frames : Entry → List (List ℕ)
+written_frames (handled fs) = fs
+written_frames (fell fs) = fs
+written_frames (overrun why fs) = fs
+written_frames _ = []
+
+abbrev pub total_length : List (List ℕ) → ℕ
+total_length [] = 0
+total_length (t ∷ ts) = length t + total_length ts
+
+abbrev pub texts_of_entry : Entry → List (List ℕ)
+texts_of_entry (text_heard t) = t ∷ []
+texts_of_entry (mail_heard t g v) = t ∷ v ∷ []
+texts_of_entry e = []
+
+-- 64 and the lengths of the entry's texts and frames
+abbrev pub entry_size : Entry → ℕ
+entry_size e = 64 + (total_length (texts_of_entry e) + total_length (written_frames e))
+
+abbrev pub journal_size : List Entry → ℕ
+journal_size [] = 0
+journal_size (e ∷ es) = entry_size e + journal_size es
+
+abbrev pub journal_limit : ℕ
+journal_limit = 16777216
+
+-- whether an entry may come after a journal of this size
+abbrev pub Allowed : Standing → ℕ → Entry → Type 0
+Allowed s size (text_heard t) = (length s.inbox < inbox_limit) × (size + entry_size (text_heard t) ≤ journal_limit)
+Allowed s size (mail_heard t g v) = (length s.inbox < inbox_limit) × (size + entry_size (mail_heard t g v) ≤ journal_limit)
+Allowed s size (handled fs) = s.inbox ≡ [] → ⊥
+Allowed s size (fell fs) = s.inbox ≡ [] → ⊥
+Allowed s size (overrun why fs) = s.state.page ≡ None → ⊥
+
+-- each entry was allowed when it came, and has exactly the frames that are defined
+abbrev pub LawfulFrom : World → Standing → ℕ → List Entry → Type 0
+LawfulFrom w s size [] = Unit {0}
+LawfulFrom w s size (e ∷ es) =
+    Allowed s size e × (written_frames e ≡ spelled (frames_of_entry w s e)) × LawfulFrom w (after_step (process_step w s e)) (size + entry_size e) es
+
+abbrev pub LawfulJournal : World → List Entry → Type 0
+LawfulJournal w es = LawfulFrom w begin_standing 0 es
+
+-- all frames of a journal, in order
+abbrev pub frames_from : World → Standing → List Entry → List Frame
+frames_from w s [] = []
+frames_from w s (e ∷ es) = frames_of_entry w s e ++ frames_from w (after_step (process_step w s e)) es
+
+abbrev pub begins_page : FrameBody → Bool
+begins_page (rendered p es) = true
+begins_page _ = false
+
+-- the last frame with a whole tree, and all frames after it
+abbrev pub since_join : List Frame → List Frame → List Frame
+since_join so_far [] = so_far
+since_join so_far (f ∷ fs) = since_join (if begins_page f.body then f ∷ [] else so_far ++ f ∷ []) fs
+
+abbrev pub frames_since_join : World → List Entry → List Frame
+frames_since_join w es = since_join [] (frames_from w begin_standing es)
+
+-- the four clauses of the headline, over any journal.
+-- First: the journal is what one thread would have written.
+abbrev pub JournalConforms : World → List Entry → Type 0
+JournalConforms w es = LawfulJournal w es
+
+-- Second: a state and an inbox are those that the journal replays to
+abbrev pub StateIsReplay : World → List Entry → Standing → Type 0
+StateIsReplay w es s = s ≡ replay_journal w es
+
+-- a tree shows the page, through some number of components: it is whole for the state, and its text is the full rendering
+abbrev pub ShowsPage : World → Page → PageTree → Type 0
+ShowsPage w p q =
+    HeldTree w.site.mark (cut (w.template_of p.view)) p.met q × ((n : ℕ) × (page_text w p ≡ Ok (show_tree w.site.mark n q)))
+
+abbrev pub ClientShows : World → Page → Option (Option PageTree) → Type 0
+ClientShows w p (Some (Some q)) = ShowsPage w p q
+ClientShows w p _ = ⊥
+
+abbrev pub PageShown : World → List Entry → Option Page → Type 0
+PageShown w es None = Unit {0}
+PageShown w es (Some p) = (k : ℕ) × ClientShows w p (client_takes_all k None (frames_since_join w es))
+
+-- Third: while the process is up, the frames since its latest join merge without an undefined case, the result is whole, and it shows the full rendering
+abbrev pub FramesShowPage : World → List Entry → Type 0
+FramesShowPage w es = PageShown w es (replay_journal w es).state.page
+
+-- Fourth: the diffs are lean, and the join's tree is whole. Frames are a function of the state before and of the entry
+-- (`frames_of_entry` answers `whole_tree` and `lean_diff`), so it is part of the first.
+pub record SessionHolds (w : World) (es : List Entry) (s : Standing) : Type 0 where
+  pub conforms : JournalConforms w es
+  pub is_replay : StateIsReplay w es s
+  pub shows : FramesShowPage w es
