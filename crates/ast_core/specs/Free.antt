@@ -68,6 +68,7 @@ abbrev mutual
   free_parts (plain t ps) = free_parts ps
   free_parts (put_part e ps) = free_names e ++ free_parts ps
 
+-- the names that attributes mention
 abbrev pub free_attributes : Attributes → List Name
 free_attributes no_attributes = []
 free_attributes (written n w xs) = free_attributes xs

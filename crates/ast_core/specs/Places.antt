@@ -12,9 +12,11 @@ is_void t = one (codes "area" ∷ codes "base" ∷ codes "br" ∷ codes "col" �
     one [] = false
     one (n ∷ ns) = bytes_eq t n || one ns
 
+-- the beginning of a start tag
 abbrev pub opening : List ℕ → List ℕ
 opening t = 60 ∷ t
 
+-- an end tag, which a void element has not
 abbrev pub closing : List ℕ → List ℕ
 closing t = if is_void t then [] else codes "</" ++ (t ++ codes ">")
 

@@ -6,6 +6,8 @@ mod fault;
 mod files;
 mod loading;
 mod manifest;
+#[cfg(test)]
+mod tests;
 
 pub use bundle::{Bundle, Step, Steps};
 pub use fault::LoadFault;

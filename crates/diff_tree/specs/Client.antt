@@ -24,21 +24,26 @@ changed None _ = None
 abbrev pub with_component : ℕ → Tree → (ℕ → Option Tree) → ℕ → Option Tree
 with_component n t f m = if m == n then Some t else f m
 
+-- the second where the first gives something
 abbrev pub and_then : {A B : Type 0} → Option A → (A → Option B) → Option B
 and_then None f = None
 and_then (Some x) f = f x
 
+-- the trees by number after the changes, in order
 abbrev pub merge_components : (ℕ → Option Tree) → List (ℕ × Change) → Option (ℕ → Option Tree)
 merge_components f [] = Some f
 merge_components f (c ∷ cs) = and_then (changed (f c.0) c.1) (λ t. merge_components (with_component c.0 t f) cs)
 
+-- whether a number is one of these
 abbrev pub among : ℕ → List ℕ → Bool
 among n [] = false
 among n (m ∷ ms) = if n == m then true else among n ms
 
+-- a number that is new comes last
 abbrev pub with_number : ℕ → List ℕ → List ℕ
 with_number n ns = if among n ns then ns else ns ++ n ∷ []
 
+-- the numbers after the changes
 abbrev pub with_numbers : List (ℕ × Change) → List ℕ → List ℕ
 with_numbers [] ns = ns
 with_numbers (c ∷ cs) ns = with_numbers cs (with_number c.0 ns)
@@ -71,6 +76,7 @@ abbrev mutual
   numbers_in_held none_held = []
   numbers_in_held (hold k ts hs) = numbers_in_all ts ++ numbers_in_held hs
 
+-- each of these numbers has a tree, and the test holds of it
 abbrev pub all_found : (Tree → Bool) → (ℕ → Option Tree) → List ℕ → Bool
 all_found p f [] = true
 all_found p f (n ∷ ns) = elim (f n) [ None ↦ false | Some t ↦ p t ] && all_found p f ns
@@ -81,6 +87,7 @@ abbrev pub closed : ℕ → (ℕ → Option Tree) → List ℕ → Bool
 closed zero f ns = is_none ns
 closed (suc k) f ns = all_found (λ t. closed k f (numbers_in t)) f ns
 
+-- the numbers one level below these
 abbrev pub inside : (ℕ → Option Tree) → List ℕ → List ℕ
 inside f [] = []
 inside f (n ∷ ns) = elim (f n) [ None ↦ [] | Some t ↦ numbers_in t ] ++ inside f ns
@@ -90,6 +97,7 @@ abbrev pub reached : ℕ → (ℕ → Option Tree) → List ℕ → List ℕ
 reached zero f ns = []
 reached (suc k) f ns = ns ++ reached k f (inside f ns)
 
+-- those that are among others
 abbrev pub only_among : List ℕ → List ℕ → List ℕ
 only_among ms [] = []
 only_among ms (n ∷ ns) = if among n ms then n ∷ only_among ms ns else only_among ms ns
@@ -100,6 +108,7 @@ dropped k p =
     let live = reached k p.component (numbers_in p.root) in
     record { root = p.root; numbers = only_among live p.numbers; component = λ n. if among n live then p.component n else None }
 
+-- a page whose numbers are good, without the components that are not reached
 abbrev pub judged : ℕ → PageTree → Option PageTree
 judged k p = if closed k p.component (numbers_in p.root) && closed k p.component p.numbers then Some (dropped k p) else None
 

@@ -29,26 +29,32 @@ pub record Frame : Type 0 where
   pub topic : List ℕ
   pub body : FrameBody
 
+-- a text, or null
 abbrev pub reference_json : Option (List ℕ) → Data
 reference_json None = null
 reference_json (Some t) = string t
 
+-- an object of one member
 abbrev pub one_member : List ℕ → Data → Data
 one_member k d = object (put k d no_members)
 
+-- the payload of a reply
 abbrev pub reply : List ℕ → Data → Data
 reply status response = object (put (codes "response") response (put (codes "status") (string status) no_members))
 
+-- the payload of `phx_error`
 abbrev pub fault_json : Option (List ℕ) → Data
 fault_json None = object no_members
 fault_json (Some reason) = one_member (codes "reason") (string reason)
 
+-- the fourth item of a frame
 abbrev pub event_of : FrameBody → List ℕ
 event_of (push d es) = codes "diff"
 event_of closed = codes "phx_close"
 event_of (faulted reason) = codes "phx_error"
 event_of _ = codes "phx_reply"
 
+-- the fifth item of a frame
 abbrev pub payload_of : FrameBody → Data
 payload_of empty = reply (codes "ok") (object no_members)
 payload_of (rendered p es) = reply (codes "ok") (one_member (codes "rendered") (page_tree_json p es))
@@ -68,6 +74,7 @@ abbrev pub held_diff : ℕ → Option PageTree → PageDiff → Option (Option P
 held_diff k None d = None
 held_diff k (Some p) d = elim (merge_diff k p d) [ None ↦ None | Some q ↦ Some (Some q) ]
 
+-- what a client holds after one frame
 abbrev pub client_takes : ℕ → Option PageTree → FrameBody → Option (Option PageTree)
 client_takes k held (rendered p es) = elim (judged k (opened_tree p)) [ None ↦ None | Some q ↦ Some (Some q) ]
 client_takes k held (changed d es) = held_diff k held d
@@ -81,6 +88,7 @@ client_takes k held (refusal reason) = by_reason (bytes_eq reason (codes "join c
     by_reason false = Some held
 client_takes k held _ = Some held
 
+-- what a client holds after frames, in order
 abbrev pub client_takes_all : ℕ → Option PageTree → List Frame → Option (Option PageTree)
 client_takes_all k held [] = Some held
 client_takes_all k held (f ∷ fs) = elim (client_takes k held f.body) [ None ↦ None | Some h ↦ client_takes_all k h fs ]

@@ -2,12 +2,15 @@
 use Rattle.std.specs.Prelude.{ℕ, List, [], ◌∷◌, ◌++◌, Bool, false, ◌&&◌, ◌||◌, ◌==◌, nat_le, if◌then◌else◌, codes}
 use Rattle.std.specs.Fmt.{decimal}
 
+-- the mark of a number
 abbrev pub mark_text : ℕ → List ℕ
 mark_text n = codes " data-phx-component=\"" ++ (decimal n ++ codes "\"")
 
+-- a lower-case letter
 abbrev pub is_lower : ℕ → Bool
 is_lower c = nat_le 97 c && nat_le c 122
 
+-- a text that begins with one
 abbrev pub begins_lower : List ℕ → Bool
 begins_lower [] = false
 begins_lower (c ∷ cs) = is_lower c
@@ -16,6 +19,7 @@ begins_lower (c ∷ cs) = is_lower c
 abbrev pub ends_name : ℕ → Bool
 ends_name c = c == 32 || c == 9 || c == 10 || c == 13 || c == 47 || c == 62 || c == 61 || c == 34 || c == 39 || c == 123 || c == 125 || c == 60
 
+-- the mark where the name ends
 abbrev pub after_name : ℕ → List ℕ → List ℕ
 after_name n [] = mark_text n
 after_name n (c ∷ cs) = if ends_name c then mark_text n ++ (c ∷ cs) else c ∷ after_name n cs

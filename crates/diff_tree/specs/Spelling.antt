@@ -7,9 +7,11 @@ use Rattle.diff_tree.specs.Container.{Position, at_end, at_index, Limit, no_limi
 use Rattle.diff_tree.specs.Tree.{Tree, text, number, node, list, stream, held, Trees, no_trees, tree, Rows, no_rows, row, Held, none_held, hold, Change, write, inner, rows, batch, Changes, no_changes, skip, change}
 use Rattle.diff_tree.specs.Client.{PageTree, PageDiff}
 
+-- a whole number
 abbrev pub whole_number_json : ℤ → Data
 whole_number_json z = number_of (of_integer z)
 
+-- a list of texts
 abbrev pub texts_json : List (List ℕ) → Items
 texts_json [] = no_items
 texts_json (t ∷ ts) = item (string t) (texts_json ts)
@@ -26,10 +28,12 @@ limit_json (first_few n) = whole_number_json (pos n)
 limit_json (last_few zero) = whole_number_json (pos 0)
 limit_json (last_few (suc n)) = whole_number_json (negsuc n)
 
+-- each insert is its dom id, its position and its limit
 abbrev pub inserts_json : List (Insert (Unit {0})) → Items
 inserts_json [] = no_items
 inserts_json (i ∷ is) = item (array (item (string i.id) (item (position_json i.position) (item (limit_json i.limit) no_items)))) (inserts_json is)
 
+-- `true` after a reset
 abbrev pub reset_json : Bool → Items
 reset_json true = item (boolean true) no_items
 reset_json false = no_items
@@ -78,6 +82,7 @@ abbrev mutual
 abbrev pub Pushed : Type 0
 Pushed = List ℕ × Data
 
+-- each pushed event is its name and its payload
 abbrev pub events_json : List Pushed → Items
 events_json [] = no_items
 events_json (e ∷ es) = item (array (item (string e.0) (item e.1 no_items))) (events_json es)
@@ -87,6 +92,7 @@ abbrev pub with_events : List Pushed → Members → Members
 with_events [] ms = ms
 with_events (e ∷ es) ms = put (codes "e") (array (events_json (e ∷ es))) ms
 
+-- the trees of components by their numbers
 abbrev pub components_json : (ℕ → Option Tree) → List ℕ → Members
 components_json f [] = no_members
 components_json f (n ∷ ns) = elim (f n) [ None ↦ components_json f ns | Some t ↦ put (decimal n) (tree_json t) (components_json f ns) ]
@@ -96,6 +102,7 @@ abbrev pub with_components : Members → Members → Members
 with_components no_members ms = ms
 with_components cs ms = put (codes "c") (object cs) ms
 
+-- the members of an object
 abbrev pub members_of : Data → Members
 members_of (object ms) = ms
 members_of _ = no_members
@@ -104,6 +111,7 @@ members_of _ = no_members
 abbrev pub page_tree_json : PageTree → List Pushed → Data
 page_tree_json p es = object (with_events es (with_components (components_json p.component p.numbers) (members_of (tree_json p.root))))
 
+-- the changes of components by their numbers
 abbrev pub changed_json : List (ℕ × Change) → Members
 changed_json [] = no_members
 changed_json (c ∷ cs) = put (decimal c.0) (change_json c.1) (changed_json cs)

@@ -49,18 +49,22 @@ weave (s ∷ ss) [] = s
 weave [] (x ∷ xs) = x ++ weave [] xs
 weave (s ∷ ss) (x ∷ xs) = s ++ (x ++ weave ss xs)
 
+-- texts, one after the other
 abbrev pub flat : List (List ℕ) → List ℕ
 flat [] = []
 flat (x ∷ xs) = x ++ flat xs
 
+-- rows as a list
 abbrev pub row_list : Rows → List Trees
 row_list no_rows = []
 row_list (row ts rs) = ts ∷ row_list rs
 
+-- held rows as a list
 abbrev pub held_list : Held → List (Row Trees)
 held_list none_held = []
 held_list (hold k ts hs) = (k, ts) ∷ held_list hs
 
+-- a list as held rows
 abbrev pub held_of : List (Row Trees) → Held
 held_of [] = none_held
 held_of (r ∷ rs) = hold r.0 r.1 (held_of rs)
@@ -105,6 +109,7 @@ abbrev mutual
   opened_rows no_rows = no_rows
   opened_rows (row ts rs) = row (opened_all ts) (opened_rows rs)
 
+-- how many values
 abbrev pub count : Trees → ℕ
 count no_trees = 0
 count (tree t ts) = suc (count ts)
@@ -114,14 +119,17 @@ abbrev pub all_fit : ℕ → Rows → Bool
 all_fit n no_rows = true
 all_fit n (row ts rs) = suc (count ts) == n && all_fit n rs
 
+-- both, or none
 abbrev pub option_both : {A B C : Type 0} → (A → B → C) → Option A → Option B → Option C
 option_both f (Some a) (Some b) = Some (f a b)
 option_both f (Some a) None = None
 option_both f None b = None
 
+-- new rows under the statics that are held
 abbrev pub merge_rows : List (List ℕ) → Rows → Option Tree
 merge_rows st rs = if all_fit (length st) rs then Some (list st (opened_rows rs)) else None
 
+-- the batch applied to the rows that are held
 abbrev pub merge_stream : List ℕ → List ℕ → List (List ℕ) → Held → Batch (Unit {0}) → Rows → Option Tree
 merge_stream name name' st hs b rs =
     if bytes_eq name name' && all_fit (length st) rs

@@ -13,6 +13,7 @@ use Rattle.doc_model.specs.Holding.{HoldsStream, Holds, HoldsItem, HoldsSlots, F
 use Rattle.doc_model.specs.Laws.{Gives}
 use Rattle.doc_model.proofs.Sames.{reading_sound}
 use Rattle.doc_model.proofs.Wholes.{Good, GoodItem, GoodSlots, StillRows, still_rows, whole_rows_show, rows-opened, rows-map, after-map, held_list_of}
+use Rattle.doc_model.proofs.Numbers.{NoneHeld, none_held_of, none_after, still_rows_none}
 
 -- a change that may be none
 abbrev pub merge_option : Tree → Option Change → Option Tree
@@ -53,16 +54,21 @@ module _ (mark : ℕ → List ℕ → List ℕ) where
     KeptSlots _ _ = Unit {0}
 
   -- a batch of rows applied to held rows
-  stream_holds : (st : List (List ℕ)) (b : Batch (Unit {0})) (new : ItemRows) (hs : List (Row Trees)) (rs : List (Row (List ℕ))) → FreshRows new → StillRows new
+  stream_shows : (st : List (List ℕ)) (b : Batch (Unit {0})) (new : ItemRows) (hs : List (Row Trees)) (rs : List (Row (List ℕ))) → FreshRows new → StillRows new
       → ((look : ℕ → List ℕ) → map (λ r. (r.0, weave st (show_values look r.1))) hs ≡ rs)
-      → HoldsStream st (held_of (after b (row_list (opened_rows (whole_rows new))) hs)) (after b (row_texts mark st new) rs)
-  stream_holds st b new hs rs f s h look =
+      → (look : ℕ → List ℕ) → map (λ r. (r.0, weave st (show_values look r.1))) (held_list (held_of (after b (row_list (opened_rows (whole_rows new))) hs))) ≡ after b (row_texts mark st new) rs
+  stream_shows st b new hs rs f s h look =
       let g = λ (r : Trees). weave st (show_values look r) in
       let xs = row_list (opened_rows (whole_rows new)) in
       ap (map (λ r. (r.0, g r.1))) (held_list_of (after b xs hs))
       ∙ sym (after-map g b xs hs)
       ∙ ap (λ l. after b l (map (λ r. (r.0, g r.1)) hs)) (sym (rows-map look st (opened_rows (whole_rows new))) ∙ rows-opened look st (whole_rows new) ∙ whole_rows_show mark look st new f (still_rows mark look new s))
       ∙ ap (after b (row_texts mark st new)) (h look)
+
+  stream_holds : (st : List (List ℕ)) (b : Batch (Unit {0})) (new : ItemRows) (hs : List (Row Trees)) (rs : List (Row (List ℕ))) → FreshRows new → StillRows new
+      → ((look : ℕ → List ℕ) → map (λ r. (r.0, weave st (show_values look r.1))) hs ≡ rs)
+      → NoneHeld hs → HoldsStream st (held_of (after b (row_list (opened_rows (whole_rows new))) hs)) (after b (row_texts mark st new) rs)
+  stream_holds st b new hs rs f s h n = (stream_shows st b new hs rs f s h, none_after b (row_list (opened_rows (whole_rows new))) hs (still_rows_none new s) n)
 
   slots-opened : (ts : Trees) → opened (slots_tree ts) ≡ slots_tree (opened_all ts)
   slots-opened no_trees = refl
@@ -87,7 +93,7 @@ module _ (mark : ℕ → List ℕ → List ℕ) where
     opened_item_holds (met_slots ss) f g = (opened_all (whole_slots ss), slots-opened (whole_slots ss), opened_slots_hold ss f g)
     opened_item_holds (met_component n st is) f g = refl
     opened_item_holds (met_stream name rs b st new) f g =
-        (held_of (after b (row_list (opened_rows (whole_rows new))) []), refl, stream_holds st b new [] rs f.1 g.2 (λ look. sym f.0))
+        (held_of (after b (row_list (opened_rows (whole_rows new))) []), refl, stream_holds st b new [] rs f.1 g.2 (λ look. sym f.0) refl)
 
     opened_slots_hold : (ss : Slots) → FreshSlots ss → GoodSlots ss → HoldsSlots mark (opened_all (whole_slots ss)) ss
     opened_slots_hold no_slots f g = tt
@@ -187,7 +193,7 @@ module _ (mark : ℕ → List ℕ → List ℕ) where
       (ap (λ c. if c then Some (held name st (held_of (after b' xs (held_list hs)))) else None) t) (
         held_of (after b' xs (held_list hs)),
         ap (λ x. held x st (held_of (after b' xs (held_list hs)))) en ∙ ap (λ x. held name' x (held_of (after b' xs (held_list hs)))) es,
-        stream_holds st' b' new' (held_list hs) rs' f s h',
+        stream_holds st' b' new' (held_list hs) rs' f s h'.0 (none_held_of hs h'.1),
       )
 
   empties_same : (ts us : Trees) → count ts ≡ count us → empties ts ≡ empties us

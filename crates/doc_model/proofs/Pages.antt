@@ -12,7 +12,7 @@ use Rattle.doc_model.specs.Holding.{Sees, SeesItem, SeesRows, SeesSlots, Holds, 
 use Rattle.doc_model.specs.Left.{Unused, Leaves, Based}
 use Rattle.doc_model.specs.Components.{Part, parts, parts_of, parts_of_rows, parts_of_slots, part_at, whole_tree, option_tree, lean_part, lean_parts, lean_diff, numbered, HoldsNode, HoldsOption, HoldsPart, HeldTree, AllOf, Distinct, depth, depth_of, depth_of_rows, depth_of_slots, Lives, Follows}
 use Rattle.diff_tree.specs.Client.{PageTree, changed, with_component, with_numbers, and_then, merge_components, merge_parts, look}
-use Rattle.doc_model.specs.Laws.{Gives, WholeTreeShows, HeldTreeShows, MergeLeanWhole}
+use Rattle.doc_model.specs.Laws.{Gives, WholeTreeShows, HeldTreeShows}
 use Rattle.doc_model.specs.Scopes.{Site}
 use Rattle.doc_model.specs.Tracing.{trace}
 use Rattle.ast_core.specs.Places.{cut, places_in}
@@ -74,7 +74,7 @@ pub goods : (site : Site) (k : ℕ) (env : Env) (ns : Nodes) (is : Items) → tr
 goods site k env ns is e =
     all_weaker (Origin site env.components) (λ p. Good p.items) (parts is) (λ p o. good_of site o.level (scope_of env.components o.component) (site.root o.component.module_name) p.items o.rendered) (origins site k env ns is e)
 
--- L1, for what a client holds
+-- for what a client holds
 held_part : (mark : ℕ → List ℕ → List ℕ) (f : ℕ → Option Tree) (p : Part) → HoldsPart mark f p → Good p.items → ShowsPart mark f p
 held_part mark f p h g = by_tree (f p.number) refl h
   where
@@ -90,7 +90,7 @@ page_shows site k env ns is p e h n d =
     sym (trace_shown site k env ns) ∙ ap (on_res (λ x. weave (cut ns) (texts site.mark x))) e
     ∙ ap Ok (sym (ap (show_value (look site.mark n p.component)) h.0.1 ∙ ap (weave (cut ns)) (held_shows site.mark (look site.mark n p.component) h.0.0 is h.0.2 g s)))
 
--- L1, for what is sent whole
+-- for what is sent whole
 other_number : (n m : ℕ) → (n ≡ m → ⊥) → (n == m) ≡ false
 other_number n m h = by_test (n == m) refl
   where
@@ -119,7 +119,7 @@ whole_page_shows site k env ns is e di fr frs n d =
     sym (trace_shown site k env ns) ∙ ap (on_res (λ x. weave (cut ns) (texts site.mark x))) e
     ∙ ap Ok (sym (ap (weave (cut ns)) (whole_shows site.mark (look site.mark n f) is fr (sees site.mark f is n d g gs sp))))
 
--- L2
+-- lean diffs
 abbrev ReadyOf : (ℕ → List ℕ → List ℕ) → Option Tree → Option Part → Part → Type 0
 ReadyOf mark o None p = Fresh p.items × Good p.items
 ReadyOf mark o (Some q) p = HoldsOption mark q o × (q.statics ≡ p.statics) × Kept mark q.items p.items × Good p.items
@@ -171,7 +171,7 @@ module _ (mark : ℕ → List ℕ → List ℕ) where
   set_other : (n m : ℕ) (t : Tree) (f : ℕ → Option Tree) → (m ≡ n → ⊥) → with_component n t f m ≡ f m
   set_other n m t f h = ap (λ b. if b then Some t else f m) (other_number m n h)
 
-  gives_weaker : {A : Type 0} (P Q : A → Type 0) (o : Option A) → ((x : A) → P x → Q x) → Gives P o → Gives Q o
+  pub gives_weaker : {A : Type 0} (P Q : A → Type 0) (o : Option A) → ((x : A) → P x → Q x) → Gives P o → Gives Q o
   gives_weaker P Q (Some x) h k = h x k
   gives_weaker P Q None h k = absurd k
 
@@ -209,8 +209,14 @@ module _ (mark : ℕ → List ℕ → List ℕ) where
       first_step f p ps (lean_parts old ps) (lean_part (part_at p.number old) p) d.0 (part_merges (f p.number) (part_at p.number old) p h.0)
       (λ g e. parts_merge old ps g d.1 (all_both (λ q. q.number ≡ p.number → ⊥) (Ready mark f old) (Ready mark g old) ps (λ q x y. ready_same f g old q (e q.number x) y) d.0 h.1))
 
-  page_merges : (st : List (List ℕ)) (is is' : Items) (p : PageTree) → HeldTree mark st is p → Kept mark is is' → Good is' → Distinct (parts is') → AllOf (Ready mark p.component (parts is)) (parts is')
-      → Gives (HeldTree mark st is') (merge_parts p (lean_diff is is'))
+  -- what a diff makes of the root and of the components, before numbers are judged
+  abbrev pub Parts : Items → Items → List (List ℕ) → PageTree → PageTree → Type 0
+  Parts is is' st p m =
+      HoldsNode mark st is' m.root × AllOf (HoldsPart mark m.component) (parts is') × ((n : ℕ) → AllOf (λ q. n ≡ q.number → ⊥) (parts is') → m.component n ≡ p.component n)
+      × (m.numbers ≡ with_numbers (lean_parts (parts is) (parts is')) p.numbers)
+
+  page_merges : (st : List (List ℕ)) (is is' : Items) (p : PageTree) → HoldsNode mark st is p.root → Kept mark is is' → Good is' → Distinct (parts is') → AllOf (Ready mark p.component (parts is)) (parts is')
+      → Gives (Parts is is' st p) (merge_parts p (lean_diff is is'))
   page_merges st is is' p h k g d r = by_root (merge_change p.root (inner (lean_places is is'))) root
     where
       by_trees : (o : Option Trees) → Gives (λ us. Holds mark us is') o → Gives (HoldsNode mark st is') (option_map (node st) o)
@@ -218,15 +224,15 @@ module _ (mark : ℕ → List ℕ → List ℕ) where
       by_trees None q = absurd q
 
       root : Gives (HoldsNode mark st is') (merge_change p.root (inner (lean_places is is')))
-      root = subst (λ u. Gives (HoldsNode mark st is') (merge_change u (inner (lean_places is is')))) (sym h.0.1) (by_trees (merge_changes h.0.0 (lean_places is is')) (lean_merges mark h.0.0 is is' h.0.2 k g))
+      root = subst (λ u. Gives (HoldsNode mark st is') (merge_change u (inner (lean_places is is')))) (sym h.1) (by_trees (merge_changes h.0 (lean_places is is')) (lean_merges mark h.0 is is' h.2 k g))
 
       by_root : (o : Option Tree) → Gives (HoldsNode mark st is') o
-          → Gives (HeldTree mark st is') (and_then o (λ t. and_then (merge_components p.component (lean_parts (parts is) (parts is'))) (λ f. Some (record { root = t; numbers = with_numbers (lean_parts (parts is) (parts is')) p.numbers; component = f }))))
+          → Gives (Parts is is' st p) (and_then o (λ t. and_then (merge_components p.component (lean_parts (parts is) (parts is'))) (λ f. Some (record { root = t; numbers = with_numbers (lean_parts (parts is) (parts is')) p.numbers; component = f }))))
       by_root None q = absurd q
       by_root (Some t) q = by_parts (merge_components p.component (lean_parts (parts is) (parts is'))) (parts_merge (parts is) (parts is') p.component d r)
         where
-          by_parts : (o : Option (ℕ → Option Tree)) → Gives (Merged p.component (parts is')) o → Gives (HeldTree mark st is') (and_then o (λ f. Some (record { root = t; numbers = with_numbers (lean_parts (parts is) (parts is')) p.numbers; component = f })))
-          by_parts (Some f) x = (q, x.0)
+          by_parts : (o : Option (ℕ → Option Tree)) → Gives (Merged p.component (parts is')) o → Gives (Parts is is' st p) (and_then o (λ f. Some (record { root = t; numbers = with_numbers (lean_parts (parts is) (parts is')) p.numbers; component = f })))
+          by_parts (Some f) x = (q, x.0, x.1, refl)
           by_parts None x = absurd x
 
 -- what is found at a number
@@ -238,7 +244,7 @@ at_all P n (p ∷ ps) q h e = by_test (n == p.number) refl e (λ k. at_all P n p
     by_test true e k r = let m : p ≡ q = cc in (subst P m h.0, (Decides-eqb n p.number).0 e ∙ ap (λ x. x.number) m)
     by_test false e k r = r k
 
--- L2
+-- lean diffs
 module _ (site : Site) (k l : ℕ) (a b : Env) (ns : Nodes) (is is' : Items) (page : PageTree) (fo : Follows site ns a b is) where
   abbrev Left : Part → Type 0
   Left q = (c : Component) → Lives c a.components → c.number ≡ q.number → Leaves site.mark (fo.of_component q.number) (places_in (site.root c.module_name)) q.items
@@ -284,13 +290,14 @@ module _ (site : Site) (k l : ℕ) (a b : Env) (ns : Nodes) (is is' : Items) (pa
           let r = old_ready p q o h.0 h.1 in
           (subst (λ n. HoldsOption site.mark q (page.component n)) (sym h.1) h.0.0, r.0, r.1, g)
 
-pub lean_page_merges : MergeLeanWhole
-lean_page_merges site k l a b ns is is' p e e' fo di h =
+pub lean_parts_merge : (site : Site) (k l : ℕ) (a b : Env) (ns : Nodes) (is is' : Items) (p : PageTree) → trace site k a ns ≡ Ok is → trace site l b ns ≡ Ok is'
+    → Follows site ns a b is → Distinct (parts is') → HeldTree site.mark (cut ns) is p → Gives (Parts site.mark is is' (cut ns) p) (merge_parts p (lean_diff is is'))
+lean_parts_merge site k l a b ns is is' p e e' fo di h =
     let olds : AllOf (λ q. Origin site a.components q × Left site k l a b ns is is' p fo q) (parts is) =
     all_both (Origin site a.components) (Left site k l a b ns is is' p fo) (λ q. Origin site a.components q × Left site k l a b ns is is' p fo q) (parts is) (λ q x y. (x, y)) (origins site k a ns is e) fo.part_left in
     let old = all_both (HoldsPart site.mark p.component) (λ q. Origin site a.components q × Left site k l a b ns is is' p fo q) (Old site k l a b ns is is' p fo) (parts is) (λ q x y. (x, y.0, y.1)) h.1 olds in
     let g = good_of site l b ns is' e' in
     let kept = both_ok site k l a b ns is is' p fo (λ x y. Leaves site.mark fo.containers (places_in ns) x → Kept site.mark x y) (trace site k a ns) (trace site l b ns) is is' e e'
     (trace_keeps site k l fo.containers a b ns fo.same_numbers fo.root_based) fo.root_left in
-    page_merges site.mark (cut ns) is is' p h kept g di
+    page_merges site.mark (cut ns) is is' p h.0 kept g di
     (all_both (Origin site b.components) (λ q. Good q.items) (Ready site.mark p.component (parts is)) (parts is') (λ q x y. ready site k l a b ns is is' p fo q old x y) (origins site l b ns is' e') (goods site l b ns is' e'))

@@ -336,7 +336,7 @@ swept_settled s m i c f g = found s.components f
         by_test true t k r = let q : d ≡ c = cc in kept (among d.number s.met) refl t q
         by_test false t k r = passed (among d.number s.met) t (r k)
 
-pub one_pass : OnePass
+pub one_pass : (X : Type 0) → OnePass X
 one_pass X views site k env ns s = made (pass views site k env ns (record s { met = [] })) (pass_traced views site k env ns (record s { met = [] }))
   where
     made : (r : Res (Items × Walk X)) → Traced (record s { met = [] }) (λ cs. trace site k (in_state cs env) ns) r → on_res {B = Items × Walk X} (λ p. (p.0, at_end_of_walk p.1)) r

@@ -1,5 +1,5 @@
 -- For every list of renderings since a join the merged frames show the page.
-use Rattle.std.proofs.Common.{◌≡◌, ◌⊎◌, inl, inr, ℕ, ◌≤◌, List, [], ◌∷◌, Ok, Err, Option, Some, None, refl, sym, ap, ◌∙◌, subst}
+use Rattle.std.proofs.Common.{◌+◌, arith, ◌≡◌, ◌⊎◌, inl, inr, ℕ, ◌≤◌, List, [], ◌∷◌, Ok, Err, Option, Some, None, refl, sym, ap, ◌∙◌, subst}
 use Rattle.ast_core.specs.Syntax.{Nodes}
 use Rattle.doc_model.specs.Environment.{Stream, Component}
 use Rattle.doc_model.specs.Evaluation.{Res, then_do, on_res}
@@ -14,8 +14,7 @@ use Rattle.diff_tree.specs.Client.{show_tree}
 use Rattle.doc_model.specs.Scopes.{Site}
 use Rattle.doc_model.specs.FullRendering.{full_render}
 use Rattle.doc_model.specs.Tracing.{trace}
-use Rattle.diff_tree.specs.Client.{opened_tree}
-use Rattle.doc_model.specs.Session.{Begins, GoesOn, latest, merged}
+use Rattle.doc_model.specs.Session.{Begins, GoesOn, AtMost, latest, taken}
 use Rattle.doc_model.specs.Table.{IsTable, WasThere, IsNew, Honest}
 use Rattle.doc_model.specs.Walk.{Views, Walk, in_state, render_state}
 use Rattle.doc_model.specs.Run.{Turn, Renders, Joins, Turns, rendering_of, renderings_of, SessionShows}
@@ -91,10 +90,17 @@ latest_level : {X : Type 0} (k : ℕ) (t : Turn X) (ts : List (Turn X)) → (lat
 latest_level k t [] = refl
 latest_level k t (u ∷ us) = latest_level k u us
 
-pub session_shows : SessionShows
+refl_le : (k : ℕ) → k ≤ k
+refl_le k = omega arith
+
+at_most : {X : Type 0} (k : ℕ) (t : Turn X) (ts : List (Turn X)) → AtMost k (rendering_of k t) (renderings_of k ts)
+at_most k t [] = refl_le k
+at_most k t (u ∷ us) = (refl_le k, at_most k u us)
+
+pub session_shows : (X : Type 0) → SessionShows X
 session_shows X views site k ns t ts honest once once_root j h =
     let b = begins views site k ns honest once once_root t j in
     let r = latest (rendering_of k t) (renderings_of k ts) in
-    subst (λ l. Gives (λ p. HeldTree site.mark (cut ns) r.items p × ((n : ℕ) → depth r.items ≤ n → full_render site l r.env ns ≡ Ok (show_tree site.mark n p))) (merged (opened_tree (whole_tree (cut ns) t.items)) (rendering_of k t) (renderings_of k ts)))
+    subst (λ l. Gives (λ p. HeldTree site.mark (cut ns) r.items p × ((n : ℕ) → depth r.items ≤ n → full_render site l r.env ns ≡ Ok (show_tree site.mark n p))) (taken (k + k) ns (rendering_of k t) (renderings_of k ts)))
     (latest_level k t ts)
-    (frames_show site ns (rendering_of k t) (renderings_of k ts) b.0 (go views site k ns honest once once_root t ts j.0 b.0.0.1 b.1 h))
+    (frames_show site ns k (rendering_of k t) (renderings_of k ts) b.0 (go views site k ns honest once once_root t ts j.0 b.0.0.1 b.1 h) (at_most k t ts))

@@ -524,7 +524,7 @@ sound_after {X = X} views site k e ns is s t honest table rendered =
       λ d x. g.0.from d (lives_swept w.met w.components d x),
     )
 
-pub next_follows : NextFollows
+pub next_follows : (X : Type 0) → NextFollows X
 next_follows X views site k l a e ns is is' root f s t honest table traced left settled based rendered =
     let s₀ : Walk X = record s { met = [] } in
     let begun : Sound s.next s.components s₀ = record {

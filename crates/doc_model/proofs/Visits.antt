@@ -256,7 +256,7 @@ module _ {X : Type 0} (views : Views X) (site : Site) (k : ℕ) (env : Env) (ns 
   trace_of : render_state views site k env ns s ≡ Ok (is, t) → trace site k (in_state t.components env) ns ≡ Ok is
   trace_of e = traced_of is t (render_state views site k env ns s) (λ u. trace site k (in_state u.components env) ns) e (one_pass X views site k env ns s)
 
-pub pass_is_walk_and_trace : PassIsWalkAndTrace
+pub pass_is_walk_and_trace : (X : Type 0) → PassIsWalkAndTrace X
 pass_is_walk_and_trace X views site k env ns s is t =
     let a = pass_alike views site k env ns (record s { met = [] }) in (
       λ e. (forth views site k env ns s is t (pass views site k env ns (record s { met = [] })) a.0 e, trace_of views site k env ns s is t e),

@@ -178,7 +178,7 @@ module _ (mark : ℕ → List ℕ → List ℕ) (look : ℕ → List ℕ) where
     held_item_shows t (met_call st is) h g s = ap (show_value look) h.1 ∙ ap (weave st) (held_shows h.0 is h.2 g s)
     held_item_shows t (met_slots ss) h g s = ap (show_value look) h.1 ∙ show_slots_tree look h.0 ∙ held_slots_show h.0 ss h.2 g s
     held_item_shows t (met_component n st is) h g s = ap (show_value look) h ∙ s
-    held_item_shows t (met_stream name rs b st new) h g s = ap (show_value look) h.1 ∙ ap flat (held-map look st h.0 ∙ ap contents (h.2 look))
+    held_item_shows t (met_stream name rs b st new) h g s = ap (show_value look) h.1 ∙ ap flat (held-map look st h.0 ∙ ap contents (h.2.0 look))
 
     held_slots_show : (ts : Trees) (ss : Slots) → HoldsSlots mark ts ss → GoodSlots ss → SeesSlots mark look ss → weave (empties ts) (show_values look ts) ≡ shown_slots mark ss
     held_slots_show no_trees no_slots h g s = refl

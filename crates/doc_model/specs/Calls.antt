@@ -34,9 +34,11 @@ pub record Passed : Type 0 where
 abbrev pub add_named : List ℕ → Value → Passed → Passed
 add_named n v later = record later { by_names = keep_last n v later.by_names (lookup n later.by_names) }
 
+-- of two spreads the later holds
 abbrev pub add_spread : Assigns → Passed → Passed
 add_spread as' later = record later { by_spreads = laid_over later.by_spreads as' }
 
+-- attributes, evaluated from left to right
 abbrev pub eval_attributes : Env → Attributes → Res Passed
 eval_attributes env no_attributes = Ok (record { by_spreads = no_assigns; by_names = no_assigns })
 eval_attributes env (written n w xs) = on_res (add_named n (written_value w)) (eval_attributes env xs)
@@ -56,6 +58,7 @@ slot_value env (slot_body n p ns) = slot n (captured_assigns env (without (bound
 abbrev pub entry_value : Env → Body → Passed → Value
 entry_value env b p = map_of (with_key (codes "inner_block") (slot_value env b) (all_passed p))
 
+-- one entry of a slot
 abbrev pub one_entry : Env → Attributes → Body → Res Values
 one_entry env xs b = on_res (λ p. value (entry_value env b p) no_values) (eval_attributes env xs)
 
@@ -69,11 +72,13 @@ abbrev pub pair_values : Assigns → Values
 pair_values no_assigns = no_values
 pair_values (assign k v as') = value (tuple (value (text k) (value v no_values))) (pair_values as')
 
+-- what a generator goes over
 abbrev pub items_of : Value → Res Values
 items_of (list vs) = Ok vs
 items_of (map_of as') = Ok (pair_values as')
 items_of _ = Err BadArgument
 
+-- an entry for each item
 abbrev pub entry_rows : Env → List Assigns → Attributes → Option Expr → Body → Res Values
 entry_rows env [] xs t b = Ok no_values
 entry_rows env (as' ∷ bs) xs t b = both append_values (tested_entry (bind as' env) xs t b) (entry_rows env bs xs t b)
@@ -83,6 +88,7 @@ abbrev pub entry_values : Env → Attributes → Option Generator → Option Exp
 entry_values env xs None t b = tested_entry env xs t b
 entry_values env xs (Some g) t b = then_do (then_do (eval_expr env g.items) items_of) (λ vs. entry_rows env (bindings g.pattern vs) xs t b)
 
+-- the entries so far
 abbrev pub values_at : Option Value → Values
 values_at (Some (list vs)) = vs
 values_at _ = no_values
@@ -91,6 +97,7 @@ values_at _ = no_values
 abbrev pub add_entries : List ℕ → Values → Assigns → Assigns
 add_entries s vs later = with_key s (list (append_values vs (values_at (lookup s later)))) later
 
+-- all slots of a call
 abbrev pub eval_entries : Env → Entries → Res Assigns
 eval_entries env no_entries = Ok no_assigns
 eval_entries env (entry l s xs g t b es) = both (add_entries s) (entry_values env xs g t b) (eval_entries env es)
@@ -99,10 +106,12 @@ eval_entries env (entry l s xs g t b es) = both (add_entries s) (entry_values en
 abbrev pub is_space : ℕ → Bool
 is_space c = c == 32 || c == 9 || c == 10 || c == 13
 
+-- a text of white space alone
 abbrev pub all_space : List ℕ → Bool
 all_space [] = true
 all_space (c ∷ cs) = is_space c && all_space cs
 
+-- nodes of white space alone
 abbrev pub is_blank : Nodes → Bool
 is_blank no_nodes = true
 is_blank (node (text_node t) ns) = all_space t && is_blank ns
@@ -117,6 +126,7 @@ content_entries env (slot_body n p ns) =
 abbrev pub callee_assigns : Value → Passed → Assigns → Assigns
 callee_assigns content p slots = with_key (codes "inner_block") content (laid_over slots (all_passed p))
 
+-- the assigns under which a callee is rendered
 abbrev pub call_assigns : Env → Attributes → Body → Entries → Res Assigns
 call_assigns env xs b es = both (callee_assigns (list (content_entries env b))) (eval_attributes env xs) (eval_entries env es)
 
@@ -128,6 +138,7 @@ module_in (valued n e xs) = module_in xs
 module_in (spread_of e xs) = module_in xs
 module_in (module_of m xs) = m
 
+-- without the entry of a key
 abbrev pub without_key : List ℕ → Assigns → Assigns
 without_key k no_assigns = no_assigns
 without_key k (assign l v as') = if bytes_eq k l then without_key k as' else assign l v (without_key k as')
@@ -153,5 +164,6 @@ abbrev mutual
 abbrev pub live_passed : Assigns → Res Assigns
 live_passed as' = if hold_slot as' then Err BadArgument else if nat_lt 99 (assigns_depth as') then Err Deep else Ok as'
 
+-- the attributes that a LiveComponent call passes
 abbrev pub live_assigns : Env → Attributes → Res Assigns
 live_assigns env xs = then_do (eval_attributes env xs) (λ p. live_passed (without_key (codes "module") (all_passed p)))

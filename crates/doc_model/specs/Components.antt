@@ -1,5 +1,5 @@
 -- Trees with components: what is sent whole, what is sent lean, and what a client holds.
-use Rattle.std.specs.Prelude.{◌≡◌, ◌⊎◌, ℕ, suc, max, List, [], ◌∷◌, ◌++◌, ◌==◌, Option, Some, None, if◌then◌else◌}
+use Rattle.std.specs.Prelude.{◌≡◌, true, false, ◌⊎◌, ℕ, suc, max, List, [], ◌∷◌, ◌++◌, ◌==◌, Option, Some, None, if◌then◌else◌}
 use Rattle.ast_core.specs.Syntax.{Nodes}
 use Rattle.doc_model.specs.Environment.{Component, Env}
 use Rattle.diff_tree.specs.Tree.{Tree, node, Trees, Change, write}
@@ -10,7 +10,7 @@ use Rattle.doc_model.specs.Holding.{Holds}
 use Rattle.doc_model.specs.Left.{Containers, Leaves, Based, SameNumbers}
 use Rattle.doc_model.specs.Scopes.{Site}
 use Rattle.ast_core.specs.Places.{places_in}
-use Rattle.diff_tree.specs.Client.{PageTree, PageDiff}
+use Rattle.diff_tree.specs.Client.{among, PageTree, PageDiff}
 
 -- a component as it was met
 pub record Part : Type 0 where
@@ -42,17 +42,25 @@ abbrev mutual
   parts_of_slots no_slots = []
   parts_of_slots (slot_of b st is ss) = parts is ++ parts_of_slots ss
 
+-- the first part of a number
 abbrev pub part_at : ℕ → List Part → Option Part
 part_at n [] = None
 part_at n (p ∷ ps) = if n == p.number then Some p else part_at n ps
 
+-- the whole tree of a part
 abbrev pub option_tree : Option Part → Option Tree
 option_tree None = None
 option_tree (Some p) = Some (node p.statics (whole_places p.items))
 
+-- the numbers of parts
 abbrev pub part_numbers : List Part → List ℕ
 part_numbers [] = []
 part_numbers (p ∷ ps) = p.number ∷ part_numbers ps
+
+-- these numbers are all among those
+abbrev pub AllAmong : List ℕ → List ℕ → Type 0
+AllAmong [] ks = Unit {0}
+AllAmong (n ∷ ns) ks = (among n ks ≡ true) × AllAmong ns ks
 
 -- the whole page that is sent
 abbrev pub whole_tree : List (List ℕ) → Items → PageTree
@@ -63,14 +71,17 @@ abbrev pub lean_part : Option Part → Part → Option Change
 lean_part None p = Some (write (node p.statics (whole_places p.items)))
 lean_part (Some q) p = unless_empty (lean_places q.items p.items)
 
+-- a change under its number, where there is one
 abbrev pub numbered : ℕ → Option Change → List (ℕ × Change) → List (ℕ × Change)
 numbered n None cs = cs
 numbered n (Some c) cs = (n, c) ∷ cs
 
+-- the changes of all parts that are met now
 abbrev pub lean_parts : List Part → List Part → List (ℕ × Change)
 lean_parts old [] = []
 lean_parts old (p ∷ ps) = numbered p.number (lean_part (part_at p.number old) p) (lean_parts old ps)
 
+-- the lean diff between two renderings: the root, and each component
 abbrev pub lean_diff : Items → Items → PageDiff
 lean_diff is is' = record { root = lean_places is is'; components = lean_parts (parts is) (parts is') }
 
@@ -86,6 +97,7 @@ module _ (mark : ℕ → List ℕ → List ℕ) where
   abbrev pub HoldsPart : (ℕ → Option Tree) → Part → Type 0
   HoldsPart f p = HoldsOption p (f p.number)
 
+-- a fact of each part
 abbrev pub AllOf : (Part → Type 0) → List Part → Type 0
 AllOf P [] = Unit {0}
 AllOf P (p ∷ ps) = P p × AllOf P ps
@@ -95,8 +107,13 @@ abbrev pub Distinct : List Part → Type 0
 Distinct [] = Unit {0}
 Distinct (p ∷ ps) = AllOf (λ q. q.number ≡ p.number → ⊥) ps × Distinct ps
 
+-- a tree that holds no other components than these
+abbrev pub HoldsNoOther : List ℕ → PageTree → Type 0
+HoldsNoOther ks p = AllAmong p.numbers ks × ((n : ℕ) → among n ks ≡ false → p.component n ≡ None)
+
+-- the tree that a client holds is whole for what a rendering met
 abbrev pub HeldTree : (ℕ → List ℕ → List ℕ) → List (List ℕ) → Items → PageTree → Type 0
-HeldTree mark st is p = HoldsNode mark st is p.root × AllOf (HoldsPart mark p.component) (parts is)
+HeldTree mark st is p = HoldsNode mark st is p.root × AllOf (HoldsPart mark p.component) (parts is) × HoldsNoOther (part_numbers (parts is)) p
 
 -- how deep components stand in one another
 abbrev mutual

@@ -10,9 +10,10 @@ use Rattle.diff_tree.specs.Spelling.{Pushed}
 use Rattle.doc_model.specs.Environment.{Stream, with_key}
 use Rattle.doc_model.specs.Evaluation.{Res, then_do, on_res, or_raise, value_depth}
 use Rattle.doc_model.specs.Calls.{has_slot}
-use Rattle.doc_model.specs.Json.{json_of_value}
+use Rattle.value_core.specs.Json.{json_of_value}
 use Rattle.doc_model.specs.Walk.{Owner, Views}
 
+-- one effect of a handler
 pub data Effect : Type 0 where
   assign_to : List ℕ → Value → Effect
   -- a stream, the dom id, the item, the position (-1 for the end) and the limit
@@ -44,6 +45,7 @@ pub record Rest : Type 0 where
   pub actions : List Action
   pub pushed : List Pushed
 
+-- how many messages an inbox holds
 abbrev pub inbox_limit : ℕ
 inbox_limit = 1024
 
@@ -73,12 +75,15 @@ abbrev pub without_id : List ℕ → List (Insert Value) → List (Insert Value)
 without_id k [] = []
 without_id k (i ∷ is) = if bytes_eq k i.id then without_id k is else i ∷ without_id k is
 
+-- a batch after a reset
 abbrev pub batch_reset : Batch Value
 batch_reset = record { reset = true; deletes = []; inserts = [] }
 
+-- a batch after a delete
 abbrev pub batch_delete : List ℕ → Batch Value → Batch Value
 batch_delete k b = record { reset = b.reset; deletes = b.deletes ++ k ∷ []; inserts = without_id k b.inserts }
 
+-- a batch after an insert
 abbrev pub batch_insert : Insert Value → Batch Value → Batch Value
 batch_insert i b = record { reset = b.reset; deletes = b.deletes; inserts = b.inserts ++ i ∷ [] }
 
@@ -86,12 +91,15 @@ batch_insert i b = record { reset = b.reset; deletes = b.deletes; inserts = b.in
 abbrev pub with_batch : List ℕ → (Batch Value → Batch Value) → (List ℕ → Stream) → List ℕ → Stream
 with_batch s f g x = if bytes_eq x s then record { shown = (g x).shown; waiting = f (g x).waiting } else g x
 
+-- an owner with one batch changed
 abbrev pub in_stream : List ℕ → (Batch Value → Batch Value) → Owner → Owner
 in_stream s f o = record { assigns = o.assigns; streams = with_batch s f o.streams }
 
+-- an owner, and the process beside it
 abbrev pub Applied : Type 0
 Applied = Owner × Rest
 
+-- with one more action
 abbrev pub acting : Action → Applied → Applied
 acting a p = (p.0, record p.1 { actions = p.1.actions ++ a ∷ [] })
 
@@ -99,15 +107,19 @@ acting a p = (p.0, record p.1 { actions = p.1.actions ++ a ∷ [] })
 abbrev pub send_value : Value → Applied → Res Applied
 send_value v p = if nat_lt (length p.1.inbox) inbox_limit then Ok (p.0, record p.1 { inbox = p.1.inbox ++ sent p.1.generation v ∷ [] }) else Err InboxFull
 
+-- the names that no effect assigns
 abbrev pub is_kept_name : List ℕ → Bool
 is_kept_name n = bytes_eq n (codes "streams") || bytes_eq n (codes "myself")
 
+-- with one assign
 abbrev pub assigned : List ℕ → Value → Applied → Applied
 assigned n v p = (record { assigns = with_key n v p.0.assigns; streams = p.0.streams }, p.1)
 
+-- one insert
 abbrev pub insert_of : List ℕ → Value → Position → Limit → Insert Value
 insert_of id v at limit = record { id = id; position = at; limit = limit; content = v }
 
+-- one effect
 abbrev pub apply_effect : Effect → Applied → Res Applied
 apply_effect (assign_to n v) p = if is_kept_name n then Err BadArgument else on_res (λ w. assigned n w p) (storable v)
 apply_effect (stream_insert s id v at limit) p =
@@ -120,6 +132,7 @@ apply_effect (publish t v) p = on_res (λ d. acting (to_publish t (compact_text 
 apply_effect (send_self v) p = then_do (sendable v) (λ d. send_value v p)
 apply_effect (push_event n v) p = on_res (λ d. (p.0, record p.1 { pushed = p.1.pushed ++ (n, d) ∷ [] })) (sendable v)
 
+-- effects in order
 abbrev pub apply_effects : List Effect → Applied → Res Applied
 apply_effects [] p = Ok p
 apply_effects (e ∷ es) p = then_do (apply_effect e p) (apply_effects es)
@@ -147,6 +160,7 @@ pub record ViewMeaning : Type 0 where
 abbrev pub applied_or_raise : Option (List Effect) → Applied → Res Applied
 applied_or_raise o p = then_do (or_raise o View) (λ es. apply_effects es p)
 
+-- a stream as it exists from mount on
 abbrev pub empty_stream : List ℕ → Stream
 empty_stream s = record { shown = []; waiting = record { reset = false; deletes = []; inserts = [] } }
 
@@ -154,6 +168,7 @@ empty_stream s = record { shown = []; waiting = record { reset = false; deletes 
 abbrev pub new_owner : ℕ → Owner
 new_owner n = record { assigns = assign (codes "myself") (whole_number (pos n)) no_assigns; streams = empty_stream }
 
+-- a component after its update
 abbrev pub updated_component : ViewMeaning → List ℕ → Assigns → Applied → Res Applied
 updated_component vs m as' p = applied_or_raise (vs.update_component m as' p.0.assigns) p
 

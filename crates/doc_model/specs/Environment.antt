@@ -12,6 +12,7 @@ pub record Stream : Type 0 where
   pub shown : List (Row (List ℕ))
   pub waiting : Batch Value
 
+-- a living LiveComponent
 pub record Component : Type 0 where
   pub number : ℕ
   pub module_name : List ℕ
@@ -29,6 +30,7 @@ pub record Env : Type 0 where
   pub streams : Option (List ℕ → Stream)
   pub components : List Component
 
+-- the value of a key
 abbrev pub lookup : List ℕ → Assigns → Option Value
 lookup k no_assigns = None
 lookup k (assign l v as') = if bytes_eq k l then Some v else lookup k as'
@@ -39,6 +41,7 @@ with_key k v no_assigns = assign k v no_assigns
 with_key k v (assign l w as') =
     match_ordering (slice_cmp nat_cmp k l) (assign k v (assign l w as')) (assign k v as') (assign l w (with_key k v as'))
 
+-- with a value at a key, where there is one
 abbrev pub with_option : List ℕ → Option Value → Assigns → Assigns
 with_option k None as' = as'
 with_option k (Some v) as' = with_key k v as'
@@ -48,6 +51,7 @@ abbrev pub get : Env → Name → Option Value
 get env (at k) = lookup k env.assigns
 get env (var k) = lookup k env.variables
 
+-- variables over others: the first of a name holds
 abbrev pub over : Assigns → Assigns → Assigns
 over no_assigns bs = bs
 over (assign k v as') bs = assign k v (over as' bs)
@@ -78,6 +82,7 @@ abbrev mutual
   binding_pairs (key k p ps) as' =
       both_bind (elim (lookup k as') [ None ↦ None | Some v ↦ binding p v ]) (binding_pairs ps as')
 
+-- with more variables
 abbrev pub bind : Assigns → Env → Env
 bind as' env = record env { variables = over as' env.variables }
 
@@ -94,11 +99,13 @@ bindings p (value v vs) = elim (binding p v) [ None ↦ bindings p vs | Some as'
 abbrev pub reading : Env → List Name → List (Option Value)
 reading env ns = map (get env) ns
 
+-- an absent name differs from every value
 abbrev pub same_option : Option Value → Option Value → Bool
 same_option None None = true
 same_option (Some v) (Some w) = same v w
 same_option _ _ = false
 
+-- the same values, name by name
 abbrev pub same_reading : List (Option Value) → List (Option Value) → Bool
 same_reading [] [] = true
 same_reading (v ∷ vs) (w ∷ ws) = same_option v w && same_reading vs ws
@@ -110,6 +117,7 @@ captured_assigns env [] = no_assigns
 captured_assigns env (at k ∷ ns) = with_option k (get env (at k)) (captured_assigns env ns)
 captured_assigns env (var k ∷ ns) = captured_assigns env ns
 
+-- the same of the variables
 abbrev pub captured_variables : Env → List Name → Assigns
 captured_variables env [] = no_assigns
 captured_variables env (at k ∷ ns) = captured_variables env ns

@@ -2,8 +2,8 @@
 use Rattle.std.specs.Prelude.{ℕ, suc, max, ℤ, pos, negsuc, ◌+ℤ◌, ◌-ℤ◌, ◌*ℤ◌, neg_ℤ, int_lt, int_div, int_rem, ◌==◌, List, [], ◌∷◌, ◌++◌, Option, Some, None, Result, Ok, Err, Bool, true, false, not, if◌then◌else◌, codes, ◌^◌, nat_lt}
 use Rattle.std.specs.Ordering.{nat_cmp, int_eq, match_ordering}
 use Rattle.std.specs.Cmp.Lexicographic.{slice_cmp}
-use Rattle.std.specs.Fmt.{signed_decimal}
 use Rattle.value_core.specs.Value.{Value, nil, boolean, whole_number, text, atom, list, tuple, map_of, slot, Values, no_values, value, Assigns, no_assigns, assign, same}
+use Rattle.value_core.specs.Print.{text_of_value}
 use Rattle.value_core.specs.declared.raise.Raise.{Raise}
 use Rattle.value_core.specs.declared.raise.Raise.TheVariants.{NoAssign, NoVariable, NoKey, BadArgument, BadBoolean, Range, NotPrintable, Deep}
 use Rattle.ast_core.specs.declared.operators.UnaryOp.{UnaryOp}
@@ -19,6 +19,7 @@ use Rattle.doc_model.specs.Environment.{Env, get, lookup, with_key}
 abbrev pub Res : Type 0 → Type 0
 Res A = Result A Raise
 
+-- the next step, unless this one raised
 abbrev pub then_do : {A B : Type 0} → Res A → (A → Res B) → Res B
 then_do (Ok a) f = f a
 then_do (Err e) f = Err e
@@ -29,10 +30,12 @@ both f (Ok a) (Ok b) = Ok (f a b)
 both f (Ok a) (Err e) = Err e
 both f (Err e) b = Err e
 
+-- a function of the result
 abbrev pub on_res : {A B : Type 0} → (A → B) → Res A → Res B
 on_res f (Ok a) = Ok (f a)
 on_res f (Err e) = Err e
 
+-- a raise where there is nothing
 abbrev pub or_raise : {A : Type 0} → Option A → Raise → Res A
 or_raise None r = Err r
 or_raise (Some v) r = Ok v
@@ -68,16 +71,7 @@ is_true nil = false
 is_true (boolean false) = false
 is_true _ = true
 
--- the text of a value; a list, a tuple, a map and a slot have none
-abbrev pub text_of_value : Value → Option (List ℕ)
-text_of_value nil = Some []
-text_of_value (boolean true) = Some (codes "true")
-text_of_value (boolean false) = Some (codes "false")
-text_of_value (whole_number n) = Some (signed_decimal n)
-text_of_value (text t) = Some t
-text_of_value (atom t) = Some t
-text_of_value _ = None
-
+-- the text of a value, where it has one
 abbrev pub printed : Value → Res (List ℕ)
 printed v = or_raise (text_of_value v) NotPrintable
 
@@ -97,6 +91,7 @@ key_of (text k) = Ok k
 key_of (atom k) = Ok k
 key_of _ = Err BadArgument
 
+-- a default where there is nothing
 abbrev pub or_value : Value → Option Value → Value
 or_value d None = d
 or_value d (Some v) = v
@@ -107,22 +102,27 @@ index_of (map_of as') w = on_res (λ k. or_value nil (lookup k as')) (key_of w)
 index_of nil w = on_res (λ k. nil) (key_of w)
 index_of _ _ = Err BadArgument
 
+-- two lists, one after the other
 abbrev pub append_values : Values → Values → Values
 append_values no_values ws = ws
 append_values (value v vs) ws = value v (append_values vs ws)
 
+-- a list from its end
 abbrev pub reverse_values : Values → Values
 reverse_values no_values = no_values
 reverse_values (value v vs) = append_values (reverse_values vs) (value v no_values)
 
+-- whether a value is the same as an item
 abbrev pub is_member : Value → Values → Bool
 is_member v no_values = false
 is_member v (value w ws) = if same v w then true else is_member v ws
 
+-- how many items
 abbrev pub value_count : Values → ℕ
 value_count no_values = 0
 value_count (value v vs) = suc (value_count vs)
 
+-- how many entries
 abbrev pub assign_count : Assigns → ℕ
 assign_count no_assigns = 0
 assign_count (assign k v as') = suc (assign_count as')
@@ -133,6 +133,7 @@ less_than (whole_number x) (whole_number y) = Ok (int_lt x y)
 less_than (text x) (text y) = Ok (match_ordering (slice_cmp nat_cmp x y) true false false)
 less_than _ _ = Err BadArgument
 
+-- on two whole numbers of 64 bits
 abbrev pub arithmetic : (ℤ → ℤ → ℤ) → Value → Value → Res Value
 arithmetic f (whole_number x) (whole_number y) = within (f x y)
 arithmetic f _ _ = Err BadArgument
@@ -142,6 +143,7 @@ abbrev pub appended : Value → Value → Res Value
 appended (list vs) (list ws) = shallow (list (append_values vs ws))
 appended _ _ = Err BadArgument
 
+-- `<>`
 abbrev pub concatenated : Value → Value → Res Value
 concatenated (text t) (text u) = Ok (text (t ++ u))
 concatenated _ _ = Err BadArgument
@@ -151,6 +153,7 @@ abbrev pub member_of : Value → Value → Res Value
 member_of v (list ws) = Ok (boolean (is_member v ws))
 member_of v _ = Err BadArgument
 
+-- `-`, `!` and `not`
 abbrev pub eval_unary : UnaryOp → Value → Res Value
 eval_unary Negative (whole_number n) = within (neg_ℤ n)
 eval_unary Negative _ = Err BadArgument
@@ -196,6 +199,7 @@ abbrev pub remainder : Value → Value → Res Value
 remainder (whole_number x) (whole_number y) = on_res (λ q. whole_number (int_rem x y)) (quotient (whole_number x) (whole_number y))
 remainder _ _ = Err BadArgument
 
+-- the absolute value
 abbrev pub absolute : Value → Res Value
 absolute (whole_number (pos n)) = Ok (whole_number (pos n))
 absolute (whole_number (negsuc n)) = within (pos (suc n))
@@ -207,23 +211,28 @@ joined t no_values = Ok []
 joined t (value v no_values) = printed v
 joined t (value v (value w ws)) = both (λ a b. a ++ (t ++ b)) (printed v) (joined t (value w ws))
 
+-- how many items or entries
 abbrev pub count_of : Value → Res ℕ
 count_of (list vs) = Ok (value_count vs)
 count_of (map_of as') = Ok (assign_count as')
 count_of _ = Err BadArgument
 
+-- the entry of a map
 abbrev pub entry_at : Value → Value → Res (Option Value)
 entry_at (map_of as') w = on_res (λ k. lookup k as') (key_of w)
 entry_at _ w = Err BadArgument
 
+-- whether there is something
 abbrev pub is_some : {A : Type 0} → Option A → Bool
 is_some None = false
 is_some (Some a) = true
 
+-- whether a value is nil
 abbrev pub is_nil : Value → Bool
 is_nil nil = true
 is_nil _ = false
 
+-- a function of one argument
 abbrev pub call_one : Function → Value → Res Value
 call_one Length (list vs) = Ok (whole_number (pos (value_count vs)))
 call_one IsNil v = Ok (boolean (is_nil v))
@@ -235,6 +244,7 @@ call_one Join (list vs) = on_res text (joined [] vs)
 call_one Reverse (list vs) = Ok (list (reverse_values vs))
 call_one _ _ = Err BadArgument
 
+-- a function of two arguments
 abbrev pub call_two : Function → Value → Value → Res Value
 call_two Div v w = quotient v w
 call_two Rem v w = remainder v w
@@ -245,6 +255,7 @@ call_two Get v w = on_res (or_value nil) (entry_at v w)
 call_two HasKey v w = on_res (λ o. boolean (is_some o)) (entry_at v w)
 call_two _ _ _ = Err BadArgument
 
+-- a function of three arguments
 abbrev pub call_three : Function → Value → Value → Value → Res Value
 call_three Get v w d = on_res (or_value d) (entry_at v w)
 call_three _ _ _ _ = Err BadArgument
@@ -256,10 +267,12 @@ eval_function f (value v (value w no_values)) = call_two f v w
 eval_function f (value u (value v (value w no_values))) = call_three f u v w
 eval_function f _ = Err BadArgument
 
+-- an entry, unless a later one has its key
 abbrev pub keep_last : List ℕ → Value → Assigns → Option Value → Assigns
 keep_last k v as' None = with_key k v as'
 keep_last k v as' (Some w) = as'
 
+-- what is decided already, else the next step
 abbrev pub or_else_do : Option (Res Value) → Res Value → Res Value
 or_else_do None r = r
 or_else_do (Some q) r = q

@@ -18,10 +18,12 @@ abbrev pub full_rows : Deeper (List ℕ) → Nodes → List Env → Res (List (L
 full_rows go body [] = Ok []
 full_rows go body (env ∷ envs) = both (λ t ts. t ∷ ts) (go env body) (full_rows go body envs)
 
+-- the body of an entry, under what it captured and what its `:let` binds
 abbrev pub full_slot : Site → Deeper (List ℕ) → Env → Value → Captured → Res (List ℕ)
 full_slot site go env v c =
     elim (binding (site.body c.number).pattern v) [ None ↦ Err NoClause | Some as' ↦ go (slot_scope env c as') (site.body c.number).nodes ]
 
+-- the bodies of entries, in order
 abbrev pub full_slots : Site → Deeper (List ℕ) → Env → Value → List Captured → Res (List ℕ)
 full_slots site go env v [] = Ok []
 full_slots site go env v (c ∷ cs) = both (λ a b. a ++ b) (full_slot site go env v c) (full_slots site go env v cs)
@@ -31,6 +33,7 @@ abbrev pub full_else : Deeper (List ℕ) → Env → Nodes → Res (List ℕ)
 full_else go env no_nodes = Ok []
 full_else go env (node n ns) = go env (node n ns)
 
+-- the text of a place
 abbrev pub full_place : Site → Deeper (List ℕ) → Env → Place → Res (List ℕ)
 full_place site go env (put e) = on_res escape_text (then_do (eval_expr env e) printed)
 full_place site go env (attribute n e) = then_do (eval_expr env e) (print_attribute n)
@@ -45,6 +48,7 @@ full_place site go env (live_call xs content es) =
 full_place site go env (stream_place s x p body) =
     then_do (stream_of env s) (λ st. on_res (λ ts. flat (contents (after (operations x p st) ts st.shown))) (full_rows go body (stream_scopes env x p st)))
 
+-- the text of attributes, in order
 abbrev pub full_attributes : Site → Deeper (List ℕ) → Env → Attributes → Res (List ℕ)
 full_attributes site go env no_attributes = Ok []
 full_attributes site go env (written n w xs) = on_res (λ u. written_text n w ++ u) (full_attributes site go env xs)
@@ -52,6 +56,7 @@ full_attributes site go env (valued n e xs) = both (λ a b. a ++ b) (full_place 
 full_attributes site go env (spread_of e xs) = both (λ a b. a ++ b) (full_place site go env (spread e)) (full_attributes site go env xs)
 full_attributes site go env (module_of m xs) = full_attributes site go env xs
 
+-- an element of its attributes and its children
 abbrev pub element_text : List ℕ → List ℕ → List ℕ → List ℕ
 element_text t a b = opening t ++ (a ++ (codes ">" ++ (b ++ closing t)))
 

@@ -4,10 +4,12 @@ use Rattle.diff_tree.specs.Container.{Row, after}
 use Rattle.diff_tree.specs.Tree.{Tree, text, number, node, held, Trees, no_trees, tree, Held, held_list, show_values, weave, opened}
 use Rattle.doc_model.specs.Trace.{Items, no_items, item, Item, met_text, met_nothing, met_branch, met_rows, met_call, met_slots, met_component, met_stream, ItemRows, no_item_rows, item_row, Slots, no_slots, slot_of, texts, row_texts}
 use Rattle.doc_model.specs.Whole.{whole_rows, rows_tree, slots_tree}
+use Rattle.diff_tree.specs.Client.{numbers_in_held}
 
--- the rows that a client holds show the container's texts, under the same ids
+-- the rows that a client holds show the container's texts, under the same ids; no component stands in them
 abbrev pub HoldsStream : List (List ℕ) → Held → List (Row (List ℕ)) → Type 0
-HoldsStream st hs container = (look : ℕ → List ℕ) → map (λ r. (r.0, weave st (show_values look r.1))) (held_list hs) ≡ container
+HoldsStream st hs container =
+    ((look : ℕ → List ℕ) → map (λ r. (r.0, weave st (show_values look r.1))) (held_list hs) ≡ container) × (numbers_in_held hs ≡ [])
 
 module _ (mark : ℕ → List ℕ → List ℕ) where
   -- each component that is met shows what `look` says

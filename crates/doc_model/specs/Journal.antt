@@ -27,17 +27,21 @@ pub record Standing : Type 0 where
   pub state : ProcessState
   pub inbox : List Waiting
 
+-- a process begins down, with an empty inbox
 abbrev pub begin_standing : Standing
 begin_standing = record { state = begin_state; inbox = [] }
 
+-- the inbox without its front
 abbrev pub without_front : List Waiting → List Waiting
 without_front [] = []
 without_front (m ∷ ms) = ms
 
+-- the frame that tells that a page is gone
 abbrev pub fault_frames : Option Page → Option (List ℕ) → List Frame
 fault_frames None reason = []
 fault_frames (Some p) reason = fault_frame p reason ∷ []
 
+-- the reason as it is sent
 abbrev pub down_reason : DownReason → List ℕ
 down_reason limit_met = codes "overrun"
 down_reason memory_wanted = codes "out of memory"
@@ -50,6 +54,7 @@ process_step w s (handled fs) = handled_front w s.state s.inbox
 process_step w s (fell fs) = goes_down s.state.generation (without_front s.inbox) (fault_frames s.state.page (Some (codes "out of memory"))) false
 process_step w s (overrun why fs) = goes_down s.state.generation s.inbox (fault_frames s.state.page (Some (down_reason why))) false
 
+-- the state and the inbox after a step
 abbrev pub after_step : Stepped → Standing
 after_step t = record { state = t.state; inbox = t.inbox }
 
@@ -58,6 +63,7 @@ abbrev pub replay_from : World → Standing → List Entry → Standing
 replay_from w s [] = s
 replay_from w s (e ∷ es) = replay_from w (after_step (process_step w s e)) es
 
+-- what a journal replays to
 abbrev pub replay_journal : World → List Entry → Standing
 replay_journal w es = replay_from w begin_standing es
 
@@ -65,19 +71,23 @@ replay_journal w es = replay_from w begin_standing es
 abbrev pub frames_of_entry : World → Standing → Entry → List Frame
 frames_of_entry w s e = (process_step w s e).frames
 
+-- frames as bytes: compact JSON with keys in byte order
 abbrev pub spelled : List Frame → List (List ℕ)
 spelled fs = map (λ f. compact_text (frame_json f)) fs
 
+-- the frames that an entry holds
 abbrev pub written_frames : Entry → List (List ℕ)
 written_frames (handled fs) = fs
 written_frames (fell fs) = fs
 written_frames (overrun why fs) = fs
 written_frames _ = []
 
+-- the length of texts
 abbrev pub total_length : List (List ℕ) → ℕ
 total_length [] = 0
 total_length (t ∷ ts) = length t + total_length ts
 
+-- the texts that an entry holds
 abbrev pub texts_of_entry : Entry → List (List ℕ)
 texts_of_entry (text_heard t) = t ∷ []
 texts_of_entry (mail_heard t g v) = t ∷ v ∷ []
@@ -87,10 +97,12 @@ texts_of_entry e = []
 abbrev pub entry_size : Entry → ℕ
 entry_size e = 64 + (total_length (texts_of_entry e) + total_length (written_frames e))
 
+-- the kept size of a journal
 abbrev pub journal_size : List Entry → ℕ
 journal_size [] = 0
 journal_size (e ∷ es) = entry_size e + journal_size es
 
+-- the kept size that no post passes
 abbrev pub journal_limit : ℕ
 journal_limit = 16777216
 
@@ -108,6 +120,7 @@ LawfulFrom w s size [] = Unit {0}
 LawfulFrom w s size (e ∷ es) =
     Allowed s size e × (written_frames e ≡ spelled (frames_of_entry w s e)) × LawfulFrom w (after_step (process_step w s e)) (size + entry_size e) es
 
+-- each entry was allowed, and has its frames
 abbrev pub LawfulJournal : World → List Entry → Type 0
 LawfulJournal w es = LawfulFrom w begin_standing 0 es
 
@@ -116,6 +129,7 @@ abbrev pub frames_from : World → Standing → List Entry → List Frame
 frames_from w s [] = []
 frames_from w s (e ∷ es) = frames_of_entry w s e ++ frames_from w (after_step (process_step w s e)) es
 
+-- a frame with a whole tree
 abbrev pub begins_page : FrameBody → Bool
 begins_page (rendered p es) = true
 begins_page _ = false
@@ -125,6 +139,7 @@ abbrev pub since_join : List Frame → List Frame → List Frame
 since_join so_far [] = so_far
 since_join so_far (f ∷ fs) = since_join (if begins_page f.body then f ∷ [] else so_far ++ f ∷ []) fs
 
+-- the frames since the latest join
 abbrev pub frames_since_join : World → List Entry → List Frame
 frames_since_join w es = since_join [] (frames_from w begin_standing es)
 
@@ -142,10 +157,12 @@ abbrev pub ShowsPage : World → Page → PageTree → Type 0
 ShowsPage w p q =
     HeldTree w.site.mark (cut (w.template_of p.view)) p.met q × ((n : ℕ) × (page_text w p ≡ Ok (show_tree w.site.mark n q)))
 
+-- a client that holds a page shows it
 abbrev pub ClientShows : World → Page → Option (Option PageTree) → Type 0
 ClientShows w p (Some (Some q)) = ShowsPage w p q
 ClientShows w p _ = ⊥
 
+-- where the process is up
 abbrev pub PageShown : World → List Entry → Option Page → Type 0
 PageShown w es None = Unit {0}
 PageShown w es (Some p) = (k : ℕ) × ClientShows w p (client_takes_all k None (frames_since_join w es))

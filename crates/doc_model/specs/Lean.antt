@@ -6,6 +6,7 @@ use Rattle.diff_tree.specs.Tree.{text, number, node, list, Rows, no_rows, row, C
 use Rattle.doc_model.specs.Trace.{Item, Items, Slots, item, met_branch, met_call, met_component, met_nothing, met_rows, met_slots, met_stream, met_text, no_slots, slot_of}
 use Rattle.doc_model.specs.Whole.{slots_tree, whole_places, whole_place, whole_rows, whole_slots}
 
+-- no place is changed
 abbrev pub is_empty : Changes → Bool
 is_empty no_changes = true
 is_empty (skip cs) = is_empty cs
@@ -15,6 +16,7 @@ is_empty (change c cs) = false
 abbrev pub unless_empty : Changes → Option Change
 unless_empty cs = if is_empty cs then None else Some (inner cs)
 
+-- a place that changes, or one that does not
 abbrev pub option_change : Option Change → Changes → Changes
 option_change None cs = skip cs
 option_change (Some c) cs = change c cs
@@ -26,6 +28,7 @@ rows_change st no_rows (row r rs) = Some (write (list st (row r rs)))
 rows_change st (row q qs) no_rows = Some (write (text []))
 rows_change st (row q qs) (row r rs) = Some (rows (row r rs))
 
+-- how many entries
 abbrev pub slot_count : Slots → ℕ
 slot_count no_slots = 0
 slot_count (slot_of b st is ss) = suc (slot_count ss)

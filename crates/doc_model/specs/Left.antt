@@ -32,11 +32,13 @@ abbrev mutual
   UnusedClauses f no_clauses = Unit {0}
   UnusedClauses f (clause p ns cs) = Unused f ns × UnusedClauses f cs
 
+-- the nodes of a clause by its position
 abbrev pub clause_at : ℕ → Clauses → Nodes
 clause_at i no_clauses = no_nodes
 clause_at zero (clause p ns cs) = ns
 clause_at (suc i) (clause p ns cs) = clause_at i cs
 
+-- the stream places of all other clauses have empty containers
 abbrev pub UnusedOthers : Containers → ℕ → Clauses → Type 0
 UnusedOthers f i no_clauses = Unit {0}
 UnusedOthers f zero (clause p ns cs) = UnusedClauses f cs

@@ -3,6 +3,7 @@ pub mod Evaluation
 pub mod Printing
 pub mod Calls
 pub mod Scopes
+pub mod Bundle
 pub mod FullRendering
 pub mod Mark
 pub mod Trace
@@ -13,7 +14,6 @@ pub mod Holding
 pub mod Left
 pub mod Components
 pub mod Walk
-pub mod Json
 pub mod Effects
 pub mod Once
 pub mod Table

@@ -9,6 +9,7 @@ use Rattle.doc_model.specs.Calls.{all_space, is_blank}
 use Rattle.doc_model.specs.Scopes.{Site}
 use Rattle.doc_model.specs.FullRendering.{full_render}
 
+-- nothing in it ends a tag name
 abbrev pub none_ends_name : List ℕ → Bool
 none_ends_name [] = true
 none_ends_name (c ∷ cs) = not (ends_name c) && none_ends_name cs

@@ -4,7 +4,7 @@ use Rattle.std.specs.Str.{bytes_eq}
 use Rattle.serde_json.specs.Data.{Data, null, boolean, number, string, array, object, unsigned, negative, float, Num, Items, no_items, item, Members, no_members, member}
 use Rattle.serde_json.specs.Read.{read}
 use Rattle.value_core.specs.Value.{Value, map_of, no_assigns}
-use Rattle.doc_model.specs.Json.{value_of_json}
+use Rattle.value_core.specs.Json.{value_of_json}
 
 -- join reference, reference and topic
 pub record MessageHead : Type 0 where
@@ -17,6 +17,7 @@ pub data EventValue : Type 0 where
   plain_value : Value → EventValue
   form_text : List ℕ → EventValue
 
+-- what a browser says
 pub data Message : Type 0 where
   beat : MessageHead → Message
   join : MessageHead → List ℕ → Message
@@ -32,6 +33,7 @@ abbrev pub member_at : List ℕ → Members → Option Data
 member_at k no_members = None
 member_at k (member l d ms) = if bytes_eq k l then Some d else member_at k ms
 
+-- a text
 abbrev pub as_text : Data → Option (List ℕ)
 as_text (string t) = Some t
 as_text _ = None
@@ -42,9 +44,11 @@ as_reference null = Some None
 as_reference (string t) = Some (Some t)
 as_reference _ = None
 
+-- a text under a name
 abbrev pub text_at : List ℕ → Members → Option (List ℕ)
 text_at k ms = option_and_then as_text (member_at k ms)
 
+-- the first, else the second
 abbrev pub or_first : {A : Type 0} → Option A → Option A → Option A
 or_first None o = o
 or_first (Some x) o = Some x
@@ -53,6 +57,7 @@ or_first (Some x) o = Some x
 abbrev pub url_of : Members → Option (List ℕ)
 url_of ms = or_first (text_at (codes "url") ms) (text_at (codes "redirect") ms)
 
+-- the text of a form
 abbrev pub form_value : Option Data → Option EventValue
 form_value o = option_map form_text (option_and_then as_text o)
 
@@ -61,6 +66,7 @@ abbrev pub value_or_empty : Option Data → Option EventValue
 value_or_empty None = Some (plain_value (map_of no_assigns))
 value_or_empty (Some d) = option_map plain_value (value_of_json d)
 
+-- the value of an event of this type
 abbrev pub event_value : List ℕ → Members → Option EventValue
 event_value type ms = if bytes_eq type (codes "form") then form_value (member_at (codes "value") ms) else value_or_empty (member_at (codes "value") ms)
 
@@ -71,16 +77,19 @@ component_number (Some null) = Some 0
 component_number (Some (number (unsigned n))) = if nat_lt n (2 ^ 63) then Some n else None
 component_number (Some _) = None
 
+-- an event
 abbrev pub event_message : MessageHead → Members → Option Message
 event_message h ms =
     option_and_then (λ type. option_and_then (λ name. option_and_then (λ v. option_map (event h name v) (component_number (member_at (codes "cid") ms)))
     (event_value type ms)) (text_at (codes "event") ms)) (text_at (codes "type") ms)
 
+-- a whole number
 abbrev pub is_whole : Data → Bool
 is_whole (number (unsigned n)) = true
 is_whole (number (negative z)) = true
 is_whole _ = false
 
+-- whole numbers
 abbrev pub all_whole : Items → Bool
 all_whole no_items = true
 all_whole (item d ds) = is_whole d && all_whole ds
@@ -90,13 +99,16 @@ abbrev pub has_numbers : Option Data → Bool
 has_numbers (Some (array ds)) = all_whole ds
 has_numbers _ = false
 
+-- where `cids` is as it must be
 abbrev pub if_numbers : Message → Members → Option Message
 if_numbers m ms = if has_numbers (member_at (codes "cids") ms) then Some m else None
 
+-- a topic of a page: `lv:` and more
 abbrev pub is_live_topic : List ℕ → Bool
 is_live_topic (a ∷ b ∷ c ∷ d ∷ ds) = bytes_eq (a ∷ b ∷ c ∷ []) (codes "lv:")
 is_live_topic _ = false
 
+-- the message of a page, by its event
 abbrev pub live_message : MessageHead → List ℕ → Members → Option Message
 live_message h name ms =
     if bytes_eq name (codes "phx_join") then option_map (join h) (url_of ms)
@@ -107,11 +119,13 @@ live_message h name ms =
     else if bytes_eq name (codes "cids_destroyed") then if_numbers (destroyed h) ms
     else None
 
+-- the message, by topic and event
 abbrev pub message_by_topic : MessageHead → List ℕ → Members → Option Message
 message_by_topic h name ms =
     if bytes_eq h.topic (codes "phoenix") && bytes_eq name (codes "heartbeat") then Some (beat h)
     else if is_live_topic h.topic then live_message h name ms else None
 
+-- the first three items
 abbrev pub head_of : Option (List ℕ) → Option (List ℕ) → List ℕ → MessageHead
 head_of j r t = record { join_reference = j; reference = r; topic = t }
 
@@ -125,5 +139,6 @@ message_of_json _ = None
 abbrev pub message_of : List ℕ → Option Message
 message_of bytes = option_and_then message_of_json (read bytes)
 
+-- these bytes spell this message
 abbrev pub SpellsMessage : List ℕ → Message → Type 0
 SpellsMessage bytes m = message_of bytes ≡ Some m

@@ -6,10 +6,12 @@ use Rattle.doc_model.specs.Trace.{Items, no_items, item, Item, met_branch, met_s
 use Rattle.doc_model.specs.Left.{Containers}
 use Rattle.doc_model.specs.Components.{Part, parts, part_at}
 
+-- the first, else the second
 abbrev pub or_else : {A : Type 0} → Option A → Option A → Option A
 or_else None o = o
 or_else (Some x) o = Some x
 
+-- the empty container where there is none
 abbrev pub or_empty : Option (List (Row (List ℕ))) → List (Row (List ℕ))
 or_empty None = []
 or_empty (Some c) = c

@@ -6,6 +6,7 @@ use Rattle.doc_model.specs.Evaluation.{Res, both, on_res, printed}
 use Rattle.value_core.specs.declared.raise.Raise.TheVariants.{BadArgument, NotPrintable}
 use Rattle.text_core.specs.Escape.{escape_text}
 
+-- texts with a space between them
 abbrev pub with_spaces : List (List ℕ) → List ℕ
 with_spaces [] = []
 with_spaces (t ∷ []) = t
@@ -23,9 +24,11 @@ abbrev mutual
   class_items no_values = Ok []
   class_items (value v vs) = both (λ ts us. ts ++ us) (class_item v) (class_items vs)
 
+-- a name with its value, escaped
 abbrev pub equals : List ℕ → List ℕ → List ℕ
 equals n t = 32 ∷ (n ++ (codes "=\"" ++ (escape_text t ++ codes "\"")))
 
+-- what is printed for nil and false: nothing, but for class and style
 abbrev pub left_out : List ℕ → List ℕ
 left_out n = if bytes_eq n (codes "class") || bytes_eq n (codes "style") then equals n [] else []
 
@@ -41,14 +44,17 @@ print_attribute n v = on_res (equals n) (printed v)
 abbrev pub is_name_byte : ℕ → Bool
 is_name_byte c = not (c == 32 || c == 9 || c == 10 || c == 13 || c == 34 || c == 39 || c == 60 || c == 62 || c == 47 || c == 61 || c == 123 || c == 125)
 
+-- each byte may stand in a name
 abbrev pub all_name_bytes : List ℕ → Bool
 all_name_bytes [] = true
 all_name_bytes (c ∷ cs) = is_name_byte c && all_name_bytes cs
 
+-- the name of an attribute, which is not empty
 abbrev pub is_attribute_name : List ℕ → Bool
 is_attribute_name [] = false
 is_attribute_name (c ∷ cs) = all_name_bytes (c ∷ cs)
 
+-- the entries in the order of their keys
 abbrev pub entry_texts : Assigns → Res (List ℕ)
 entry_texts no_assigns = Ok []
 entry_texts (assign k v as') =

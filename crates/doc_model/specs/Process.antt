@@ -20,7 +20,7 @@ use Rattle.doc_model.specs.Components.{whole_tree, lean_diff}
 use Rattle.doc_model.specs.Once.{left, left_to}
 use Rattle.doc_model.specs.Run.{settled_stream, settled_components}
 use Rattle.doc_model.specs.Walk.{Owner, owner_of, component_with, Walk, in_state, render_state}
-use Rattle.doc_model.specs.Json.{value_of_json}
+use Rattle.value_core.specs.Json.{value_of_json}
 use Rattle.doc_model.specs.Effects.{Effect, Action, Waiting, heard, mailed, sent, Rest, Applied, Handler, of_view, of_module, ViewMeaning, applied_or_raise, empty_stream, views_of}
 use Rattle.doc_model.specs.Message.{MessageHead, EventValue, plain_value, form_text, Message, beat, join, leave, event, patch, will_destroy, destroyed, message_of}
 
@@ -53,9 +53,11 @@ pub record ProcessState : Type 0 where
   pub generation : ℕ
   pub page : Option Page
 
+-- a process begins down
 abbrev pub begin_state : ProcessState
 begin_state = record { generation = 0; page = None }
 
+-- the scope of a view
 abbrev pub scope_of_view : Assigns → (List ℕ → Stream) → List Component → Env
 scope_of_view as' streams cs = record { assigns = as'; variables = no_assigns; streams = Some streams; components = cs }
 
@@ -98,6 +100,7 @@ rendered_page w v j t s =
     (render_state (views_of w.views) w.site levels (scope_of_view s.view.assigns s.view.streams s.components) (w.template_of v)
     (record { components = s.components; met = []; next = s.next; rest = s.rest }))
 
+-- the process after handlers of its view
 abbrev pub turning_view : List Component → ℕ → Applied → Turning
 turning_view cs n p = record { view = p.0; components = cs; next = n; rest = p.1 }
 
@@ -119,6 +122,7 @@ abbrev pub component_at : ℕ → List Component → Option Component
 component_at n [] = None
 component_at n (c ∷ cs) = if n == c.number then Some c else component_at n cs
 
+-- the components after handlers of one
 abbrev pub with_owner : ℕ → Owner → List Component → List Component
 with_owner n o [] = []
 with_owner n o (c ∷ cs) = if n == c.number then component_with n c.module_name c.id c.passed o ∷ cs else c ∷ with_owner n o cs
@@ -138,6 +142,7 @@ pub record Stepped : Type 0 where
   pub actions : List Action
   pub crashed : Bool
 
+-- a frame
 abbrev pub frame_of : Option (List ℕ) → Option (List ℕ) → List ℕ → FrameBody → Frame
 frame_of j r t b = record { join_reference = j; reference = r; topic = t; body = b }
 
@@ -149,9 +154,11 @@ reply_to h b = frame_of h.join_reference h.reference h.topic b
 abbrev pub unchanged : ProcessState → List Waiting → List Frame → Stepped
 unchanged s inbox fs = record { state = s; inbox = inbox; frames = fs; actions = []; crashed = false }
 
+-- the process is down
 abbrev pub goes_down : ℕ → List Waiting → List Frame → Bool → Stepped
 goes_down g inbox fs c = record { state = record { generation = g; page = None }; inbox = inbox; frames = fs; actions = []; crashed = c }
 
+-- the frame that tells that a page is gone
 abbrev pub fault_frame : Page → Option (List ℕ) → Frame
 fault_frame p reason = frame_of p.join_reference p.join_reference p.topic (faulted reason)
 
@@ -159,6 +166,7 @@ fault_frame p reason = frame_of p.join_reference p.join_reference p.topic (fault
 abbrev pub rest_of : ℕ → List Waiting → Rest
 rest_of g inbox = record { generation = g; inbox = inbox; actions = []; pushed = [] }
 
+-- nothing has changed, and nothing was pushed
 abbrev pub no_difference : PageDiff → List Pushed → Bool
 no_difference d [] = is_empty d.root && none d.components
   where
@@ -171,6 +179,7 @@ no_difference d (e ∷ es) = false
 abbrev pub diff_body : PageDiff → List Pushed → FrameBody
 diff_body d es = if no_difference d es then empty else changed d es
 
+-- a push carries the diff
 abbrev pub push_frames : Page → PageDiff → List Pushed → List Frame
 push_frames p d es = if no_difference d es then [] else frame_of p.join_reference None p.topic (push d es) ∷ []
 
@@ -180,9 +189,11 @@ after_turn s p inbox frames (Err e) = goes_down s.generation inbox (fault_frame 
 after_turn s p inbox frames (Ok o) =
     record { state = record { generation = s.generation; page = Some o.page }; inbox = o.rest.inbox; frames = frames (lean_diff p.met o.page.met) o.rest.pushed; actions = o.rest.actions; crashed = false }
 
+-- the answer to a URL that leads nowhere
 abbrev pub no_route : MessageHead → Frame
 no_route h = reply_to h (refusal (codes "no route"))
 
+-- the first page, or the crash of a join
 abbrev pub after_join : World → ℕ → MessageHead → List Waiting → Route → Res Outcome → Stepped
 after_join w g h inbox r (Err e) = goes_down g inbox (reply_to h (refusal (codes "join crashed")) ∷ []) true
 after_join w g h inbox r (Ok o) =
@@ -200,10 +211,12 @@ step_join w s inbox h None = unchanged s inbox (no_route h ∷ [])
 step_join w s inbox h (Some r) =
     after_join w (suc s.generation) h inbox r (joined_page w r h.join_reference h.topic (rest_of (suc s.generation) inbox))
 
+-- the value of an event; the text of a form is read
 abbrev pub value_of : World → EventValue → Value
 value_of w (plain_value v) = v
 value_of w (form_text t) = w.read_form t
 
+-- the reply to an event or a patch
 abbrev pub reply_diff : MessageHead → PageDiff → List Pushed → List Frame
 reply_diff h d es = reply_to h (diff_body d es) ∷ []
 
@@ -213,6 +226,7 @@ step_component w s p inbox h name v None = unchanged s inbox (reply_to h empty �
 step_component w s p inbox h name v (Some c) =
     after_turn s p inbox (reply_diff h) (component_turn w p c (w.views.handle_event (of_module c.module_name) name v c.assigns) (rest_of s.generation inbox))
 
+-- an event, of the view or of a component
 abbrev pub step_event : World → ProcessState → Page → List Waiting → MessageHead → List ℕ → Value → ℕ → Stepped
 step_event w s p inbox h name v n =
     if n == 0
@@ -227,6 +241,7 @@ step_patch w s p inbox h (Some r) =
     then after_turn s p inbox (reply_diff h) (view_turn w p (w.views.handle_params p.view r.params p.assigns) (rest_of s.generation inbox))
     else unchanged s inbox (no_route h ∷ [])
 
+-- the same text, or null both times
 abbrev pub same_reference : Option (List ℕ) → Option (List ℕ) → Bool
 same_reference None None = true
 same_reference (Some a) (Some b) = bytes_eq a b
@@ -236,9 +251,11 @@ same_reference _ _ = false
 abbrev pub is_of : Page → MessageHead → Bool
 is_of p h = same_reference h.join_reference p.join_reference && bytes_eq h.topic p.topic
 
+-- where the process is up and the message is of its join
 abbrev pub if_fresh : ProcessState → List Waiting → MessageHead → (Page → Stepped) → Stepped
 if_fresh s inbox h f = elim (s.page) [ None ↦ unchanged s inbox [] | Some p ↦ if is_of p h then f p else unchanged s inbox [] ]
 
+-- what a message makes of a process
 abbrev pub step_message : World → ProcessState → List Waiting → Message → Stepped
 step_message w s inbox (beat h) = unchanged s inbox (frame_of None h.reference (codes "phoenix") empty ∷ [])
 step_message w s inbox (join h url) = step_join w s inbox h (w.route url)
@@ -263,9 +280,11 @@ step_info w s inbox p r =
 abbrev pub if_present : ProcessState → List Waiting → ℕ → (Page → Stepped) → Stepped
 if_present s inbox g f = elim (s.page) [ None ↦ unchanged s inbox [] | Some p ↦ if g == s.generation then f p else unchanged s inbox [] ]
 
+-- the value of a mail
 abbrev pub mail_value : List ℕ → Res Value
 mail_value bytes = or_raise (option_and_then value_of_json (read bytes)) BadArgument
 
+-- what the front of an inbox makes of a process
 abbrev pub step_waiting : World → ProcessState → List Waiting → Waiting → Stepped
 step_waiting w s inbox (heard bytes) = step_heard w s inbox (message_of bytes)
 step_waiting w s inbox (mailed t g bytes) = if_present s inbox g (λ p. step_info w s inbox p (mail_value bytes))

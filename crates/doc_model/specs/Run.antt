@@ -1,5 +1,5 @@
 -- The renderings of a process since a join, from the walk's side.
-use Rattle.std.specs.Prelude.{◌≡◌, ℕ, ◌≤◌, List, [], ◌∷◌, Option, Some, None, false, Ok}
+use Rattle.std.specs.Prelude.{◌≡◌, ℕ, ◌+◌, ◌≤◌, List, [], ◌∷◌, Option, Some, None, false, Ok}
 use Rattle.ast_core.specs.Syntax.{Nodes}
 use Rattle.doc_model.specs.Environment.{Stream, Component, Env}
 use Rattle.doc_model.specs.Trace.{Items}
@@ -13,7 +13,7 @@ use Rattle.doc_model.specs.Scopes.{Site}
 use Rattle.doc_model.specs.FullRendering.{full_render}
 use Rattle.doc_model.specs.Tracing.{trace}
 use Rattle.diff_tree.specs.Client.{opened_tree}
-use Rattle.doc_model.specs.Session.{Rendering, latest, merged}
+use Rattle.doc_model.specs.Session.{Rendering, latest, taken}
 use Rattle.doc_model.specs.Table.{IsTable, Honest, SettledAs}
 use Rattle.doc_model.specs.Walk.{Views, Walk, in_state, render_state}
 
@@ -24,6 +24,7 @@ pub record Turn (X : Type 0) : Type 0 where
   pub items : Items
   pub after : Walk X
 
+-- the turn is one rendering
 abbrev pub Renders : {X : Type 0} → Views X → Site → ℕ → Nodes → Turn X → Type 0
 Renders views site k ns t = render_state views site k t.env ns t.before ≡ Ok (t.items, t.after)
 
@@ -38,34 +39,39 @@ Turns views site k ns t (u ∷ us) =
     Renders views site k ns u × (u.before.next ≡ t.after.next) × SettledAs (left_to site.mark t.items) t.after.components u.before.components × Based (left site.mark t.items) u.env.streams
     × Turns views site k ns u us
 
+-- what a turn met, in the state that it left
 abbrev pub rendering_of : {X : Type 0} → ℕ → Turn X → Rendering
 rendering_of k t = record { level = k; env = in_state t.after.components t.env; items = t.items }
 
+-- the same of each turn
 abbrev pub renderings_of : {X : Type 0} → ℕ → List (Turn X) → List Rendering
 renderings_of k [] = []
 renderings_of k (t ∷ ts) = rendering_of k t ∷ renderings_of k ts
 
 -- for every list of renderings since a join, the merged frames are defined and whole, and show the full rendering of the latest state
-abbrev pub SessionShows : Type 1
-SessionShows = (X : Type 0) (views : Views X) (site : Site) (k : ℕ) (ns : Nodes) (t : Turn X) (ts : List (Turn X))
+abbrev pub SessionShows : Type 0 → Type 0
+SessionShows X = (views : Views X) (site : Site) (k : ℕ) (ns : Nodes) (t : Turn X) (ts : List (Turn X))
     → Honest views → Once (streams_in ns) → ((m : List ℕ) → Once (streams_in (site.root m))) → Joins views site k ns t → Turns views site k ns t ts
     → Gives (λ p. HeldTree site.mark (cut ns) (latest (rendering_of k t) (renderings_of k ts)).items p
     × ((n : ℕ) → depth (latest (rendering_of k t) (renderings_of k ts)).items ≤ n
     → full_render site k (latest (rendering_of k t) (renderings_of k ts)).env ns ≡ Ok (show_tree site.mark n p)))
-    (merged (opened_tree (whole_tree (cut ns) t.items)) (rendering_of k t) (renderings_of k ts))
+    (taken (k + k) ns (rendering_of k t) (renderings_of k ts))
 
 -- a state after its batches were applied: the containers that were left, and empty batches
 abbrev pub settled_stream : Containers → List ℕ → Stream
 settled_stream f s = record { shown = f s; waiting = record { reset = false; deletes = []; inserts = [] } }
 
+-- components after their batches were applied
 abbrev pub settled_components : (ℕ → Containers) → List Component → List Component
 settled_components f [] = []
 settled_components f (c ∷ cs) = record c { streams = settled_stream (f c.number) } ∷ settled_components f cs
 
+-- an owner after its batches were applied
 abbrev pub settled_streams : Containers → Option (List ℕ → Stream) → Option (List ℕ → Stream)
 settled_streams f None = None
 settled_streams f (Some g) = Some (settled_stream f)
 
+-- a scope after all batches were applied
 abbrev pub settled_env : Containers → (ℕ → Containers) → Env → Env
 settled_env root f env = record { assigns = env.assigns; variables = env.variables; streams = settled_streams root env.streams; components = settled_components f env.components }
 

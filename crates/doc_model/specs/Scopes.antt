@@ -7,6 +7,7 @@ use Rattle.doc_model.specs.Evaluation.{Res, then_do, both, on_res, or_raise}
 use Rattle.diff_tree.specs.Container.{Insert, Batch}
 use Rattle.value_core.specs.declared.raise.Raise.TheVariants.{BadArgument, NoAssign, NoClause}
 
+-- a slot body: the pattern of its `:let`, and its nodes
 pub record SlotBody : Type 0 where
   pub pattern : Pattern
   pub nodes : Nodes
@@ -23,9 +24,11 @@ pub record Site : Type 0 where
 abbrev pub callee : Env → Assigns → Env
 callee env as' = record { assigns = as'; variables = no_assigns; streams = None; components = env.components }
 
+-- the scope of a component: its own assigns and streams
 abbrev pub component_scope : Env → Component → Env
 component_scope env c = record { assigns = c.assigns; variables = no_assigns; streams = Some c.streams; components = env.components }
 
+-- the scope of a row of a stream: no components
 abbrev pub stream_row : Env → Assigns → Env
 stream_row env as' = record { assigns = env.assigns; variables = over as' env.variables; streams = None; components = [] }
 
@@ -40,10 +43,12 @@ abbrev pub as_slot : Site → Option Value → Res Captured
 as_slot site (Some (slot b as' vs)) = if site.has_body b then Ok (record { number = b; assigns = as'; variables = vs }) else Err BadArgument
 as_slot site _ = Err BadArgument
 
+-- the slot of one entry
 abbrev pub entry_of : Site → Value → Res Captured
 entry_of site (map_of as') = as_slot site (lookup (codes "inner_block") as')
 entry_of site _ = Err BadArgument
 
+-- the slots of entries, in order
 abbrev pub entries_of : Site → Values → Res (List Captured)
 entries_of site no_values = Ok []
 entries_of site (value v vs) = both (λ c cs. c ∷ cs) (entry_of site v) (entries_of site vs)
@@ -54,6 +59,7 @@ slots_of site nil = Ok []
 slots_of site (list vs) = entries_of site vs
 slots_of site v = on_res (λ c. c ∷ []) (entry_of site v)
 
+-- the scope of a slot body: what was captured, and what its `:let` binds
 abbrev pub slot_scope : Env → Captured → Assigns → Env
 slot_scope env c as' = record { assigns = c.assigns; variables = over as' c.variables; streams = None; components = env.components }
 
@@ -63,13 +69,16 @@ is_id (whole_number n) = true
 is_id (text t) = true
 is_id _ = false
 
+-- the id among attributes
 abbrev pub id_of : Assigns → Res Value
 id_of as' = then_do (or_raise (lookup (codes "id") as') BadArgument) (λ v. if is_id v then Ok v else Err BadArgument)
 
+-- a call of no component
 abbrev pub or_none : Option Component → Res Component
 or_none None = Err BadArgument
 or_none (Some c) = Ok c
 
+-- the component that has this module and id
 abbrev pub component_of : Env → List ℕ → Assigns → Res Component
 component_of env m as' = then_do (id_of as') (λ v. or_none (find m v env.components))
 
@@ -85,20 +94,25 @@ matched x p (i ∷ is) = elim (binding p i.content) [
   | Some as' ↦ record { id = i.id; position = i.position; limit = i.limit; content = assign x (text i.id) as' } ∷ matched x p is
 ]
 
+-- what inserts carry
 abbrev pub insert_contents : {X : Type 0} → List (Insert X) → List X
 insert_contents [] = []
 insert_contents (i ∷ is) = i.content ∷ insert_contents is
 
+-- inserts without what they carry
 abbrev pub bare : {X : Type 0} → List (Insert X) → List (Insert (Unit {0}))
 bare [] = []
 bare (i ∷ is) = record { id = i.id; position = i.position; limit = i.limit; content = tt } ∷ bare is
 
+-- the operations of the batch that waits
 abbrev pub operations : List ℕ → Pattern → Stream → Batch (Unit {0})
 operations x p s = record { reset = s.waiting.reset; deletes = s.waiting.deletes; inserts = bare (matched x p s.waiting.inserts) }
 
+-- the scope of each inserted row
 abbrev pub stream_scopes : Env → List ℕ → Pattern → Stream → List Env
 stream_scopes env x p s = map (stream_row env) (insert_contents (matched x p s.waiting.inserts))
 
+-- the scope of each row
 abbrev pub row_scopes : Env → Pattern → Values → List Env
 row_scopes env p vs = map (λ as'. inside as' env) (bindings p vs)
 
@@ -108,9 +122,11 @@ pub record Chosen : Type 0 where
   pub variables : Assigns
   pub nodes : Nodes
 
+-- one clause further on
 abbrev pub later : Chosen → Chosen
 later c = record c { index = suc c.index }
 
+-- the clause that matches, with what it binds
 abbrev pub chosen : Value → Clauses → Res Chosen
 chosen v no_clauses = Err NoClause
 chosen v (clause p ns cs) = elim (binding p v) [

@@ -21,6 +21,7 @@ IsTable n (c ∷ cs) = (c.number < n) × ((d : Component) → Lives d cs → (d.
 abbrev pub WasThere : List Component → Component → Type 0
 WasThere cs d = (c : Component) × Lives c cs × (c.number ≡ d.number) × (c.module_name ≡ d.module_name) × (c.id ≡ d.id) × ((x : List ℕ) → (d.streams x).shown ≡ (c.streams x).shown)
 
+-- a component that was not there begins with empty containers
 abbrev pub IsNew : ℕ → List Component → Component → Type 0
 IsNew n cs d = (n ≤ d.number) × (find d.module_name d.id cs ≡ None) × ((x : List ℕ) → (d.streams x).shown ≡ [])
 
@@ -42,8 +43,8 @@ pub record LeftBehind (site : Site) (ns : Nodes) (cs : List Component) (is : Ite
   pub none_left : (n : ℕ) → part_at n (parts is) ≡ None → (s : List ℕ) → f n s ≡ []
 
 -- the facts of the induction over a journal: after a rendering that follows, the new state follows the old one, and no two components share a number
-abbrev pub NextFollows : Type 1
-NextFollows = (X : Type 0) (views : Views X) (site : Site) (k l : ℕ) (a e : Env) (ns : Nodes) (is is' : Items) (root : Containers) (f : ℕ → Containers) (s t : Walk X)
+abbrev pub NextFollows : Type 0 → Type 0
+NextFollows X = (views : Views X) (site : Site) (k l : ℕ) (a e : Env) (ns : Nodes) (is is' : Items) (root : Containers) (f : ℕ → Containers) (s t : Walk X)
     → Honest views → IsTable s.next a.components → trace site l a ns ≡ Ok is → LeftBehind site ns a.components is root f
     → SettledAs f a.components s.components → Based root e.streams → render_state views site k e ns s ≡ Ok (is', t)
     → Follows site ns a (in_state t.components e) is × Distinct (parts is') × IsTable t.next t.components

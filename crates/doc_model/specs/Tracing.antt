@@ -18,19 +18,23 @@ abbrev pub trace_rows : Deeper Items → Nodes → List Env → Res ItemRows
 trace_rows go body [] = Ok no_item_rows
 trace_rows go body (env ∷ envs) = both item_row (go env body) (trace_rows go body envs)
 
+-- what the body of an entry meets
 abbrev pub trace_slot : Site → Deeper Items → Env → Value → Captured → Res Items
 trace_slot site go env v c =
     elim (binding (site.body c.number).pattern v) [ None ↦ Err NoClause | Some as' ↦ go (slot_scope env c as') (site.body c.number).nodes ]
 
+-- what the bodies of entries meet, in order
 abbrev pub trace_slots : Site → Deeper Items → Env → Value → List Captured → Res Slots
 trace_slots site go env v [] = Ok no_slots
 trace_slots site go env v (c ∷ cs) =
     both (slot_of c.number (cut (site.body c.number).nodes)) (trace_slot site go env v c) (trace_slots site go env v cs)
 
+-- an else without content is none
 abbrev pub trace_else : Deeper Items → Env → Nodes → Res Item
 trace_else go env no_nodes = Ok met_nothing
 trace_else go env (node n ns) = on_res (met_branch 1 (cut (node n ns))) (go env (node n ns))
 
+-- what a place meets
 abbrev pub trace_place : Site → Deeper Items → Env → Place → Res Item
 trace_place site go env (put e) = on_res (λ t. met_text (reading env (free_names e)) (escape_text t)) (then_do (eval_expr env e) printed)
 trace_place site go env (attribute n e) = on_res (met_text (reading env (free_names e))) (then_do (eval_expr env e) (print_attribute n))
@@ -50,10 +54,12 @@ trace_place site go env (live_call xs content es) =
 trace_place site go env (stream_place s x p body) =
     then_do (stream_of env s) (λ st. on_res (met_stream s st.shown (operations x p st) (cut body)) (trace_rows go body (stream_scopes env x p st)))
 
+-- what places meet, in order
 abbrev pub trace_places : Site → Deeper Items → Env → List Place → Res Items
 trace_places site go env [] = Ok no_items
 trace_places site go env (p ∷ ps) = both item (trace_place site go env p) (trace_places site go env ps)
 
+-- with so many levels left
 abbrev pub trace : Site → ℕ → Env → Nodes → Res Items
 trace site zero env ns = Err Deep
 trace site (suc k) env ns = trace_places site (trace site k) env (places_in ns)

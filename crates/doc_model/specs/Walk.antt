@@ -33,9 +33,11 @@ pub record Walk (X : Type 0) : Type 0 where
   pub next : ℕ
   pub rest : X
 
+-- what handlers of a component see
 abbrev pub owner_of : Component → Owner
 owner_of c = record { assigns = c.assigns; streams = c.streams }
 
+-- a component after its handlers
 abbrev pub component_with : ℕ → List ℕ → Value → Assigns → Owner → Component
 component_with n m i as' o = record { number = n; module_name = m; id = i; passed = as'; assigns = o.assigns; streams = o.streams }
 
@@ -48,15 +50,19 @@ with_changed m i c (d ∷ ds) = if bytes_eq m d.module_name && same i d.id then 
 abbrev pub Step : Type 0 → Type 0 → Type 0
 Step X A = Walk X → Res (A × Walk X)
 
+-- a result that leaves the process as it is
 abbrev pub plainly : {X A : Type 0} → Res A → Step X A
 plainly r s = on_res (λ a. (a, s)) r
 
+-- one step and then the next
 abbrev pub and_so : {X A B : Type 0} → Step X A → (A → Step X B) → Step X B
 and_so m f s = then_do (m s) (λ p. f p.0 p.1)
 
+-- a function of what a step gives
 abbrev pub giving : {X A B : Type 0} → (A → B) → Step X A → Step X B
 giving f m s = on_res (λ p. (f p.0, p.1)) (m s)
 
+-- two steps, one after the other
 abbrev pub in_turn : {X A B C : Type 0} → (A → B → C) → Step X A → Step X B → Step X C
 in_turn f m n s = then_do (m s) (λ p. on_res (λ q. (f p.0 q.0, q.1)) (n p.1))
 
@@ -131,6 +137,7 @@ module _ {X : Type 0} (views : Views X) where
   pass site zero env ns = plainly (Err Deep)
   pass site (suc k) env ns = pass_places site k (pass site k) env (places_in ns)
 
+-- two that give nothing
 abbrev pub nothing_more : {A B : Type 0} → A → B → Unit {0}
 nothing_more a b = tt
 
@@ -184,9 +191,11 @@ abbrev pub swept : List ℕ → List Component → List Component
 swept ms [] = []
 swept ms (c ∷ cs) = if among c.number ms then c ∷ swept ms cs else swept ms cs
 
+-- a scope with the components of a state
 abbrev pub in_state : List Component → Env → Env
 in_state cs env = record env { components = cs }
 
+-- the process after the walk: what was not met is gone
 abbrev pub at_end_of_walk : {X : Type 0} → Walk X → Walk X
 at_end_of_walk s = record s { components = swept s.met s.components; met = [] }
 
@@ -200,8 +209,8 @@ abbrev pub walked : {X : Type 0} → Views X → Site → ℕ → Env → Nodes 
 walked views site k env ns s = on_res (λ p. p.1) (render_state views site k env ns s)
 
 -- one pass raises exactly where the walk, and then the rendering of the state that it leaves, raise; its trace is the trace of that state
-abbrev pub OnePass : Type 1
-OnePass = (X : Type 0) (views : Views X) (site : Site) (k : ℕ) (env : Env) (ns : Nodes) (s : Walk X)
+abbrev pub OnePass : Type 0 → Type 0
+OnePass X = (views : Views X) (site : Site) (k : ℕ) (env : Env) (ns : Nodes) (s : Walk X)
     → render_state views site k env ns s ≡ then_do (walked views site k env ns s) (λ s'. on_res (λ is. (is, s')) (trace site k (in_state s'.components env) ns))
 
 -- the walk alone, and what it leaves
@@ -209,7 +218,7 @@ abbrev pub component_walk : {X : Type 0} → Views X → Site → ℕ → Env �
 component_walk views site k env ns s = on_res (λ p. at_end_of_walk p.1) (visit views site k env ns (record s { met = [] }))
 
 -- a rendering in one pass does not raise exactly where the walk alone, and then the trace of the state that it leaves, do not raise; and it gives that state and that trace
-abbrev pub PassIsWalkAndTrace : Type 1
-PassIsWalkAndTrace = (X : Type 0) (views : Views X) (site : Site) (k : ℕ) (env : Env) (ns : Nodes) (s : Walk X) (is : Items) (t : Walk X)
+abbrev pub PassIsWalkAndTrace : Type 0 → Type 0
+PassIsWalkAndTrace X = (views : Views X) (site : Site) (k : ℕ) (env : Env) (ns : Nodes) (s : Walk X) (is : Items) (t : Walk X)
     → (render_state views site k env ns s ≡ Ok (is, t) → (component_walk views site k env ns s ≡ Ok t) × (trace site k (in_state t.components env) ns ≡ Ok is))
     × ((component_walk views site k env ns s ≡ Ok t) × (trace site k (in_state t.components env) ns ≡ Ok is) → render_state views site k env ns s ≡ Ok (is, t))

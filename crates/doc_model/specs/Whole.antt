@@ -13,6 +13,7 @@ abbrev pub empties : Trees → List (List ℕ)
 empties no_trees = [] ∷ []
 empties (tree t ts) = [] ∷ empties ts
 
+-- a node of the entries, or the empty text where there is none
 abbrev pub slots_tree : Trees → Tree
 slots_tree no_trees = text []
 slots_tree (tree t ts) = node (empties (tree t ts)) (tree t ts)

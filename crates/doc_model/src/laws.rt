@@ -1,8 +1,11 @@
 //! What the definitions keep: each law is the promise of a function that does nothing.
 
-ghost use Rattle.doc_model.specs.Laws.{HeldTreeShows, MergeLeanWhole, WholeTreeShows};
+ghost use Rattle.doc_model.specs.Effects.{Rest};
+ghost use Rattle.doc_model.specs.Laws.{HeldTreeShows, MergeLeanWhole, TakenWhole, WholeTreeShows};
 ghost use Rattle.doc_model.specs.Mark.{MarkIsAtRoot};
+ghost use Rattle.doc_model.specs.Run.{SessionShows, SettledShows};
 ghost use Rattle.doc_model.specs.Session.{FramesShow};
+ghost use Rattle.doc_model.specs.Walk.{OnePass, PassIsWalkAndTrace};
 
 /// The whole tree that is sent shows the full rendering, where all streams begin empty.
 #[tactic(auto, using(crate::proofs::Pages::whole_page_shows))]
@@ -16,8 +19,14 @@ pub fn held_tree_shows()
     ensures { HeldTreeShows }
 {}
 
+/// The whole tree that is sent, taken by a client, is whole.
+#[tactic(auto, using(crate::proofs::Judged::taken_whole))]
+pub fn taken_whole()
+    ensures { TakenWhole }
+{}
+
 /// The lean diff, merged into a tree that is whole, gives the new whole tree.
-#[tactic(auto, using(crate::proofs::Pages::lean_page_merges))]
+#[tactic(auto, using(crate::proofs::Judged::merge_lean_whole))]
 pub fn merge_lean_whole()
     ensures { MergeLeanWhole }
 {}
@@ -32,4 +41,26 @@ pub fn frames_show()
 #[tactic(auto, using(crate::proofs::Marks::mark_is_at_root))]
 pub fn mark_is_at_root()
     ensures { MarkIsAtRoot }
+{}
+
+/// One pass that walks and renders is the walk and then the rendering of the state that it leaves.
+#[tactic(auto, using(crate::proofs::AtProcess::pass_of_process))]
+pub fn one_pass()
+    ensures { OnePass Rest }
+{}
+
+/// One pass does not raise exactly where the walk alone and then the rendering do not.
+pub fn pass_is_walk_and_trace()
+    ensures { PassIsWalkAndTrace Rest }
+{}
+
+/// For any list of renderings since a join the merged frames are whole and show the latest state.
+#[tactic(auto, using(crate::proofs::AtProcess::session_of_process))]
+pub fn session_shows()
+    ensures { SessionShows Rest }
+{}
+
+/// The state after its batches were applied shows what the rendering showed.
+pub fn settled_shows()
+    ensures { SettledShows }
 {}

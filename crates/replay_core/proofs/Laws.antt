@@ -1,6 +1,6 @@
 -- The function that reads, and the relation that says what is read, agree.
-use Rattle.std.proofs.Common.{arith, ◌≡◌, ◌≤◌, ◌<◌, ◌⊎◌, ◌↔◌, inl, inr, ℕ, ◌+◌, ◌-◌, List, [], ◌∷◌, ◌++◌, length, take, drop, codes, Bool, true, false, cond, ◌&&◌, nat_le, Option, Some, None, option_map, option_and_then, refl, ap, sym, suc, subst, ◌∙◌, Result, Ok, Err, IfOk, length-append, append_assoc}
-use Rattle.std.specs.Str.{IsUtf8, is_utf8, bytes_eq}
+use Rattle.std.proofs.Common.{arith, ◌≡◌, ◌≤◌, ◌<◌, inl, inr, ℕ, ◌+◌, ◌-◌, List, [], ◌∷◌, ◌++◌, length, take, drop, codes, Bool, true, false, cond, ◌&&◌, nat_le, Option, Some, None, option_map, option_and_then, refl, ap, sym, suc, subst, ◌∙◌, Result, Ok, Err, IfOk, length-append}
+use Rattle.std.specs.Str.{is_utf8, bytes_eq}
 use Rattle.std.proofs.lemmas.Str.{IsUtf8-from_is_utf8, is_utf8-from_IsUtf8}
 use Rattle.std.proofs.lemmas.Slice.Eq.{bytes_eq-Decides}
 use Rattle.std.proofs.lemmas.List.{take-append-drop}
@@ -61,9 +61,9 @@ by_end l x r None b h e = cc
 by_end l x r (Some n) b h e =
     by_name (λ name. line.Join name (codes "/")) l x n (is_name n) refl (h ∙ ap (λ y. codes "join " ++ y) (in_front_yes (codes " /") r n b)) (fit n (is_name n) refl) e
   where
-  fit : (n : List ℕ) (b : Bool) → is_name n ≡ b → (is_name n && true) ≡ is_name n
-  fit n true h = ap (λ c. c && true) h ∙ sym h
-  fit n false h = ap (λ c. c && true) h ∙ sym h
+    fit : (n : List ℕ) (b : Bool) → is_name n ≡ b → (is_name n && true) ≡ is_name n
+    fit n true h = ap (λ c. c && true) h ∙ sym h
+    fit n false h = ap (λ c. c && true) h ∙ sym h
 
 by_join : (l : List ℕ) (x : Line) (o : Option (List ℕ)) → behind (codes "join ") l ≡ o → option_map (λ name. line.Join name (codes "/")) (option_and_then name_of (option_and_then (in_front (codes " /")) o)) ≡ Some x → IsLine l x
 by_join l x None b e = cc

@@ -1,8 +1,8 @@
 -- Facts on cut lines, names and single steps of the reader.
-use Rattle.std.proofs.Common.{rules, arith, ◌≡◌, ◌≢◌, ◌≤◌, ◌<◌, ℕ, ◌+◌, zero, suc, List, [], ◌∷◌, ◌++◌, length, take, drop, get_or, Bool, true, false, not, cond, ◌&&◌, ◌==◌, nat_lt, if◌then◌else◌, Option, Some, None, position, refl, ap, sym, ◌∙◌, Result, Ok, Err, lit<}
-use Rattle.std.specs.List.{list_all, prefix_len, position_or_len}
+use Rattle.std.proofs.Common.{arith, ◌≡◌, ◌≢◌, ◌≤◌, ◌<◌, ℕ, ◌+◌, zero, suc, List, [], ◌∷◌, ◌++◌, length, take, drop, get_or, Bool, true, false, cond, ◌&&◌, ◌==◌, nat_lt, Option, Some, None, position, refl, ap, sym, ◌∙◌, Err, lit<}
+use Rattle.std.specs.List.{list_all, position_or_len}
 use Rattle.std.specs.Str.{IsUtf8, IsAscii, is_utf8}
-use Rattle.std.proofs.lemmas.Str.{IsUtf8-from_ascii, IsUtf8-from_is_utf8, is_utf8-from_IsUtf8}
+use Rattle.std.proofs.lemmas.Str.{IsUtf8-from_ascii, IsUtf8-from_is_utf8}
 use Rattle.std.proofs.lemmas.Bool.Decides.{nat_tests}
 use Rattle.std.proofs.Math.Seq.{drop-length}
 use borrow.Author.Tests.{ltb-true, ltb-false}
@@ -91,9 +91,9 @@ letters_ascii : (l : List ℕ) → list_all is_letter_or_digit l ≡ true → Is
 letters_ascii [] h = λ i. lit< tt
 letters_ascii (b ∷ bs) h = let both = head_true (is_letter_or_digit b) (list_all is_letter_or_digit bs) h in λ i. at_place b bs (letter_small b both.0) (letters_ascii bs both.1) i
   where
-  at_place : (b : ℕ) (bs : List ℕ) → b < 128 → IsAscii bs → (i : ℕ) → get_or (b ∷ bs) i 0 < 128
-  at_place b bs h hs zero = h
-  at_place b bs h hs (suc i) = hs i
+    at_place : (b : ℕ) (bs : List ℕ) → b < 128 → IsAscii bs → (i : ℕ) → get_or (b ∷ bs) i 0 < 128
+    at_place b bs h hs zero = h
+    at_place b bs h hs (suc i) = hs i
 
 -- a name is UTF-8
 pub name_utf8 : (l : List ℕ) → is_name l ≡ true → IsUtf8 l

@@ -22,7 +22,8 @@ abbrev pub hears_join : List ℕ → List ℕ → Player → Player
 hears_join name url p = record {
   session = with_entry (entry.Heard (join_text name (decimal (p.sent + 1)) url)) p.session;
   sent = p.sent + 1;
-  printed = p.printed }
+  printed = p.printed;
+}
 
 -- the process takes the message at the front, if one waits
 abbrev pub handles : List (List ℕ) → Machine → Machine

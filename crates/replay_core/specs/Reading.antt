@@ -1,5 +1,5 @@
 -- The reader of scripts as a function: the script that a text spells, or the number of its bad line.
-use Rattle.std.specs.Prelude.{◌≡◌, ◌↔◌, ℕ, ◌+◌, ◌-◌, List, [], ◌∷◌, ◌++◌, length, take, drop, codes, Bool, true, false, nat_le, if◌then◌else◌, Option, Some, None, option_map, option_and_then, Result, Ok, Err}
+use Rattle.std.specs.Prelude.{◌≡◌, ◌↔◌, ℕ, ◌+◌, ◌-◌, List, [], ◌∷◌, ◌++◌, length, take, drop, codes, nat_le, if◌then◌else◌, Option, Some, None, option_map, option_and_then, Result, Ok, Err}
 use Rattle.std.specs.Str.{is_utf8, bytes_eq}
 use Rattle.replay_core.specs.declared.script.Line.{Line}
 use Rattle.replay_core.specs.declared.script.Line.TheVariants as line

@@ -1,5 +1,5 @@
 -- Which texts spell a script, and which line of another is bad.
-use Rattle.std.specs.Prelude.{◌≡◌, ◌≤◌, ◌<◌, ◌⊎◌, ℕ, ◌+◌, List, [], ◌∷◌, ◌++◌, length, take, codes, Bool, true, false, not, ◌&&◌, ◌||◌, ◌==◌, nat_le, nat_lt, if◌then◌else◌, count_by}
+use Rattle.std.specs.Prelude.{◌≡◌, ◌≤◌, ◌<◌, ◌⊎◌, ℕ, ◌+◌, List, [], ◌∷◌, ◌++◌, length, take, codes, Bool, true, not, ◌&&◌, ◌||◌, ◌==◌, nat_le, nat_lt, if◌then◌else◌, count_by}
 use Rattle.std.specs.List.{list_all, list_any}
 use Rattle.std.specs.Str.{IsUtf8, bytes_eq}
 use Rattle.replay_core.specs.declared.script.Line.{Line}
@@ -76,7 +76,7 @@ abbrev pub Adds : List Line → List ℕ → List Line → Type 0
 Adds before l after =
     IsUtf8 l
     × (((does_nothing l ≡ true) × (after ≡ before))
-      ⊎ ((x : Line) × (l ≡ line_text x) × (is_fit x ≡ true) × (may_stand before x ≡ true) × (after ≡ before ++ x ∷ [])))
+    ⊎ ((x : Line) × (l ≡ line_text x) × (is_fit x ≡ true) × (may_stand before x ≡ true) × (after ≡ before ++ x ∷ [])))
 
 -- behind the script `before`, these lines make the script `s`
 abbrev pub SpellsLines : List Line → List (List ℕ) → List Line → Type 0

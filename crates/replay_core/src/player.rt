@@ -143,9 +143,7 @@ pub(crate) fn frames(
     let head = numbered(alloc, name, " frames ", frames.len())?;
     let mut out = Bytes::copy_of(alloc, head.as_str().as_bytes())?;
     push_lines(frames.as_slice(), &mut out)?;
-    let printed = printed
-        .checked_add(frames.len() as u64)
-        .ok_or(OutOfMemory)?;
+    let printed = printed.checked_add(frames.len() as u64).ok_or(OutOfMemory)?;
     Ok((
         Player {
             session,

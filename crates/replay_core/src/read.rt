@@ -413,5 +413,4 @@ pub fn read_script(alloc: Global, text: &[u8]) -> Result<Script, ScriptFault>
 pub fn script_law()
     ensures script { ReadsAsSpelled }
     ensures bad_line { NamesBadLine }
-{
-}
+{}

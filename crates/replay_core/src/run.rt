@@ -75,11 +75,7 @@ fn print_page(alloc: Global, name: &Text, board: &ByKey<Player>) -> Result<Bytes
     }
 }
 
-fn print_frames(
-    alloc: Global,
-    name: &Text,
-    board: &mut ByKey<Player>,
-) -> Result<Bytes, OutOfMemory>
+fn print_frames(alloc: Global, name: &Text, board: &mut ByKey<Player>) -> Result<Bytes, OutOfMemory>
     ensures board { OnOk result (board.new ≡ changed name.now frames_printed board.old) }
     ensures text { IfOk result (λ t. t ≡ printed_of name.now (λ p. frames_text name.now (new_frames p)) board.old) }
 {
@@ -134,12 +130,7 @@ fn say<S: Sink>(out: &mut S, text: &Bytes) -> Wrote
 
 /// Runs a script over an app, and writes what its lines print. Each browser has a process of its
 /// own; what a browser shows is the tree of its latest frame.
-pub fn replay<S: Sink>(
-    alloc: Global,
-    app: &Arc<App>,
-    script: &Script,
-    out: &mut S,
-) -> ReplayEnd
+pub fn replay<S: Sink>(alloc: Global, app: &Arc<App>, script: &Script, out: &mut S) -> ReplayEnd
     ensures { ReplayEnds (arc_value app.now) script.now (S.written out.old) (S.written out.new) (Rose (S.failed out.old) (S.failed out.new)) result }
 {
     let mut board = ByKey::new(alloc);

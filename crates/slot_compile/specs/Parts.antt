@@ -1,5 +1,5 @@
 -- A text cut at its first `{`.
-use Rattle.std.specs.Prelude.{◌≡◌, ◌==◌, ℕ, List, [], ◌∷◌, Option, Some, None, MatchOption}
+use Rattle.std.specs.Prelude.{◌≡◌, ◌==◌, ℕ, List, [], ◌∷◌, Option, MatchOption}
 use Rattle.std.specs.List.{slice_split}
 use denote.Bor.{Bor}
 

@@ -1,0 +1,169 @@
+use crate::{Bundle, LoadFault, Step, load};
+use std::alloc::Global;
+use std::test::Fail;
+use text_core::{ByKey, Bytes, Failing, HeldFolder, OutOfMemory, Seq, Text};
+
+const MANIFEST: &str =
+    "{\"version\":1,\"views\":[{\"path\":\"/\",\"template\":\"home\",\"mount\":[[\"assign\",\"n\",\"7\"]]}]}";
+
+const TEMPLATE: &str = "<p>{@n}</p>";
+
+fn folder(alloc: Global, files: &[(&str, &[u8])]) -> Result<HeldFolder, OutOfMemory> {
+    let mut held = ByKey::new(alloc);
+    for file in files {
+        held.insert(
+            Text::copy_of(alloc, file.0)?,
+            Bytes::copy_of(alloc, file.1)?,
+        )?;
+    }
+    Ok(HeldFolder::new(held))
+}
+
+fn fault(alloc: Global, files: &[(&str, &[u8])]) -> Result<Option<LoadFault>, OutOfMemory> {
+    let mut folder = folder(alloc, files)?;
+    Ok(load(alloc, &mut folder).err())
+}
+
+fn fault_of_manifest(alloc: Global, manifest: &str) -> Result<Option<LoadFault>, OutOfMemory> {
+    fault(
+        alloc,
+        &[
+            ("bundle.json", manifest.as_bytes()),
+            ("home.html.heex", TEMPLATE.as_bytes()),
+        ],
+    )
+}
+
+#[test]
+fn hello_is_loaded(rt: HostRuntime) -> Result<(), Fail> {
+    let alloc = rt.alloc();
+    let files = [
+        ("bundle.json", MANIFEST.as_bytes()),
+        ("home.html.heex", TEMPLATE.as_bytes()),
+    ];
+    let mut folder = folder(alloc, &files)?;
+    let Bundle { compiled, mount } = load(alloc, &mut folder)?;
+    assert_eq!(rt; compiled.statics()[0].as_str(), "<p>");
+    assert_eq!(rt; compiled.places()[0].as_str(), "n");
+    assert_eq!(rt; mount.len(), 1);
+    let Step::Assign { name, value } = &mount.as_slice()[0];
+    assert_eq!(rt; name.as_str(), "n");
+    assert_eq!(rt; *value, 7);
+    Ok(())
+}
+
+#[test]
+fn manifests(rt: HostRuntime) -> Result<(), Fail> {
+    let alloc = rt.alloc();
+    let taken = [
+        MANIFEST,
+        "{\"version\":2,\"version\":1,\"views\":[{\"path\":\"/\",\"template\":\"home\",\"mount\":[[\"assign\",\"n\",\"9223372036854775807\"]]}]}",
+        " {\"views\" : [{\"mount\":[[\"assign\",\"m\",\"01\"],[\"assign\",\"n\",\"0\"]],\"template\":\"home\",\"path\":\"\\/\"}], \"version\":1}",
+    ];
+    for manifest in taken {
+        assert_eq!(rt; fault_of_manifest(alloc, manifest)?, None);
+    }
+    let refused = [
+        "",
+        "[]",
+        "{\"version\":1}",
+        "{\"version\":2,\"views\":[{\"path\":\"/\",\"template\":\"home\",\"mount\":[[\"assign\",\"n\",\"7\"]]}]}",
+        "{\"version\":\"1\",\"views\":[{\"path\":\"/\",\"template\":\"home\",\"mount\":[[\"assign\",\"n\",\"7\"]]}]}",
+        "{\"version\":1.0,\"views\":[{\"path\":\"/\",\"template\":\"home\",\"mount\":[[\"assign\",\"n\",\"7\"]]}]}",
+        "{\"version\":1,\"version\":2,\"views\":[{\"path\":\"/\",\"template\":\"home\",\"mount\":[[\"assign\",\"n\",\"7\"]]}]}",
+        "{\"version\":1,\"more\":0,\"views\":[{\"path\":\"/\",\"template\":\"home\",\"mount\":[[\"assign\",\"n\",\"7\"]]}]}",
+        "{\"version\":1,\"views\":[{\"path\":\"/\",\"template\":\"home\",\"mount\":[[\"assign\",\"n\",\"7\"]],\"events\":[]}]}",
+        "{\"version\":1,\"views\":[]}",
+        "{\"version\":1,\"views\":[{\"path\":\"/\",\"template\":\"home\",\"mount\":[[\"assign\",\"n\",\"7\"]]},{\"path\":\"/b\",\"template\":\"home\",\"mount\":[]}]}",
+        "{\"version\":1,\"views\":[{\"path\":\"/b\",\"template\":\"home\",\"mount\":[[\"assign\",\"n\",\"7\"]]}]}",
+        "{\"version\":1,\"views\":[{\"path\":\"/\",\"template\":\"other\",\"mount\":[[\"assign\",\"n\",\"7\"]]}]}",
+        "{\"version\":1,\"views\":[{\"path\":\"/\",\"template\":7,\"mount\":[[\"assign\",\"n\",\"7\"]]}]}",
+        "{\"version\":1,\"views\":[{\"path\":\"/\",\"template\":\"home\",\"mount\":{}}]}",
+        "{\"version\":1,\"views\":[{\"path\":\"/\",\"template\":\"home\",\"mount\":[]}]}",
+        "{\"version\":1,\"views\":[{\"path\":\"/\",\"template\":\"home\",\"mount\":[[\"assign\",\"n\",7]]}]}",
+        "{\"version\":1,\"views\":[{\"path\":\"/\",\"template\":\"home\",\"mount\":[[\"assign\",\"n\",\"-7\"]]}]}",
+        "{\"version\":1,\"views\":[{\"path\":\"/\",\"template\":\"home\",\"mount\":[[\"assign\",\"n\",\"9223372036854775808\"]]}]}",
+        "{\"version\":1,\"views\":[{\"path\":\"/\",\"template\":\"home\",\"mount\":[[\"assign\",\"n\",\"7\",\"\"]]}]}",
+        "{\"version\":1,\"views\":[{\"path\":\"/\",\"template\":\"home\",\"mount\":[[\"assign\",\"n\"]]}]}",
+        "{\"version\":1,\"views\":[{\"path\":\"/\",\"template\":\"home\",\"mount\":[[\"push\",\"n\",\"7\"]]}]}",
+        "{\"version\":1,\"views\":[{\"path\":\"/\",\"template\":\"home\",\"mount\":[[\"assign\",\"n\",\"7\"],[\"assign\",\"end\",\"7\"]]}]}",
+        "{\"version\":1,\"views\":[{\"path\":\"/\",\"template\":\"home\",\"mount\":[[\"assign\",\"n\",\"7\"],[\"assign\",\"streams\",\"7\"]]}]}",
+        "{\"version\":1,\"views\":[{\"path\":\"/\",\"template\":\"home\",\"mount\":[[\"assign\",\"m\",\"7\"]]}]}",
+    ];
+    for manifest in refused {
+        assert_eq!(rt;
+            fault_of_manifest(alloc, manifest)?,
+            Some(LoadFault::Refused)
+        );
+    }
+    Ok(())
+}
+
+#[test]
+fn files(rt: HostRuntime) -> Result<(), Fail> {
+    let alloc = rt.alloc();
+    let manifest = ("bundle.json", MANIFEST.as_bytes());
+    let template = ("home.html.heex", TEMPLATE.as_bytes());
+    let refused = Some(LoadFault::Refused);
+    assert_eq!(rt; fault(alloc, &[])?, refused);
+    assert_eq!(rt; fault(alloc, &[manifest])?, refused);
+    assert_eq!(rt; fault(alloc, &[template])?, refused);
+    assert_eq!(rt; fault(alloc, &[manifest, template, ("a", b"")])?, refused);
+    assert_eq!(rt;
+        fault(alloc, &[manifest, ("home.html.heex", b"<p>{@n}\xff</p>")])?,
+        refused
+    );
+    assert_eq!(rt;
+        fault(alloc, &[("bundle.json", b"\xff"), template])?,
+        refused
+    );
+    assert_eq!(rt;
+        fault(alloc, &[manifest, ("home.html.heex", b"<p>{@n</p>")])?,
+        refused
+    );
+    let upper =
+        "{\"version\":1,\"views\":[{\"path\":\"/\",\"template\":\"Home\",\"mount\":[[\"assign\",\"n\",\"7\"]]}]}";
+    assert_eq!(rt;
+        fault(
+            alloc,
+            &[
+                ("bundle.json", upper.as_bytes()),
+                ("Home.html.heex", TEMPLATE.as_bytes())
+            ]
+        )?,
+        refused
+    );
+    Ok(())
+}
+
+#[test]
+fn sizes(rt: HostRuntime) -> Result<(), Fail> {
+    let alloc = rt.alloc();
+    let manifest = ("bundle.json", MANIFEST.as_bytes());
+    let text = vec![in alloc; b'a'; 1_048_577]?;
+    assert_eq!(rt;
+        fault(alloc, &[manifest, ("home.html.heex", &text[..1_048_576])])?,
+        None
+    );
+    assert_eq!(rt;
+        fault(alloc, &[manifest, ("home.html.heex", text.as_slice())])?,
+        Some(LoadFault::Refused)
+    );
+    Ok(())
+}
+
+#[test]
+fn failing_calls(rt: HostRuntime) -> Result<(), Fail> {
+    let alloc = rt.alloc();
+    let files = [
+        ("bundle.json", MANIFEST.as_bytes()),
+        ("home.html.heex", TEMPLATE.as_bytes()),
+    ];
+    for call in 1..4u64 {
+        let mut failing = Seq::new(alloc);
+        failing.push(call)?;
+        let mut folder = Failing::new(folder(alloc, &files)?, failing, 0);
+        assert_eq!(rt; load(alloc, &mut folder).err(), Some(LoadFault::ReadFault));
+    }
+    Ok(())
+}
