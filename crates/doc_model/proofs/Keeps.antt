@@ -1,4 +1,4 @@
--- L2 for one node: two renderings of the same nodes are kept, so the lean diff merges.
+-- The merge law for one node: two renderings of the same nodes are kept, so the lean diff merges.
 use Rattle.std.proofs.Common.{◌≡◌, ℕ, zero, suc, ◌+◌, List, [], ◌∷◌, ◌++◌, Ok, Err, Option, Some, None, Bool, true, false, ◌&&◌, ◌==◌, if◌then◌else◌, refl, sym, ap, ◌∙◌, subst, arith, true≢false}
 use Rattle.std.proofs.lemmas.Bool.Decides.{Decides-eqb}
 use Rattle.value_core.specs.Value.{Value, Assigns}
@@ -215,7 +215,7 @@ trace_keeps site (suc k) zero f a b ns n base = pair_err (λ is is'. Leaves site
 trace_keeps site (suc k) (suc l) f a b ns n base =
     places_kept site (trace site k) (trace site l) (trace_agrees site k l) (trace_keeps site k l) (trace_fresh site l) (trace_leaves_none site k) f (places_in ns) a b n base
 
--- L2 for one node of a client's tree
+-- The merge law for one node of a client's tree
 pub lean_gives_whole : (site : Site) (k l : ℕ) (f : Containers) (a b : Env) (ns : Nodes) (is is' : Items) (ts : Trees)
     → SameNumbers a.components b.components → Based f b.streams → trace site k a ns ≡ Ok is → trace site l b ns ≡ Ok is' → Leaves site.mark f (places_in ns) is → Holds site.mark ts is
     → Gives (λ us. Holds site.mark us is') (merge_changes ts (lean_places is is'))

@@ -162,7 +162,7 @@ module _ (mark : ℕ → List ℕ → List ℕ) (look : ℕ → List ℕ) where
     still_slots no_slots h = tt
     still_slots (slot_of b st is ss) h = (still_sees is h.0, still_slots ss h.1)
 
-  -- L1: a tree that a client holds whole shows what the trace shows
+  -- The show law: a tree that a client holds whole shows what the trace shows
   mutual
     pub held_shows : (ts : Trees) (is : Items) → Holds mark ts is → Good is → Sees mark look is → show_values look ts ≡ texts mark is
     held_shows no_trees no_items h g s = refl

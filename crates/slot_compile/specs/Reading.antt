@@ -1,5 +1,5 @@
 -- Which texts spell a template, and how its pieces are found.
-use Rattle.std.specs.Prelude.{◌≡◌, ◌≢◌, ◌⊎◌, ℕ, List, [], ◌∷◌, ◌++◌, length, codes, Bool, true, not, ◌&&◌, ◌==◌, nat_lt, if◌then◌else◌, Option, Some, None, option_map, option_and_then}
+use Rattle.std.specs.Prelude.{◌≡◌, ◌≢◌, ◌⊎◌, ◌↔◌, ℕ, List, [], ◌∷◌, ◌++◌, length, codes, Bool, true, not, ◌&&◌, ◌==◌, nat_lt, if◌then◌else◌, Option, Some, None, option_map, option_and_then}
 use Rattle.std.specs.List.{list_all, slice_split, before_first, after_first, position_or_len}
 use Rattle.std.specs.Str.{bytes_eq}
 use Rattle.slot_compile.specs.declared.template.Node.{Node}
@@ -91,3 +91,7 @@ content_of text = option_and_then (before_end (codes "</p>")) (behind (codes "<p
 -- the nodes of a template
 abbrev pub template_of : List ℕ → Option (List Node)
 template_of text = elim (content_of text) [ None ↦ pieces_of text | Some content ↦ option_map paragraph (pieces_of content) ]
+
+-- the law: the reader reads exactly what the grammar spells, as the nodes that it spells
+abbrev pub ReadsAsSpelled : Type 0
+ReadsAsSpelled = (text : List ℕ) (ns : List Node) → (template_of text ≡ Some ns) ↔ SpellsTemplate text ns

@@ -1,8 +1,15 @@
 //! Laws of the definitions: each is the contract of a function that does nothing.
+ghost use Rattle.slot_compile.specs.Reading.{ReadsAsSpelled};
 ghost use Rattle.slot_compile.specs.Rendering.{StaticsWeave};
 
 /// Statics woven with what the places show are the full rendering, and both raise alike.
 #[tactic(auto, using(crate::proofs::Weaves::statics_weave))]
 pub fn statics_weave()
     ensures { StaticsWeave }
+{}
+
+/// The reader of templates reads exactly what the grammar spells, as the nodes that it spells.
+#[tactic(auto)]
+pub fn reads_as_spelled()
+    ensures { ReadsAsSpelled }
 {}

@@ -30,7 +30,7 @@ empty_list = refl
 two_levels : depth_of nested ≡ 2
 two_levels = refl
 
-slot_of_nested : depth_of (slot 7 (assign (codes "a") nested no_assigns) no_assigns) ≡ 2
+slot_of_nested : depth_of (slot 7 (assign (codes "a") nested no_assigns) no_assigns) ≡ 0
 slot_of_nested = refl
 
 text_of_true : text_of_value (boolean true) ≡ Some (codes "true")

@@ -1,13 +1,12 @@
--- How deep a value nests: each list, tuple and map is one level, and a slot adds none to what it holds.
+-- How deep a value nests: each list, tuple and map is one level, and a slot adds none, whatever it captured.
 use Rattle.std.specs.Prelude.{ℕ, suc, max}
-use Rattle.value_core.specs.Value.{Value, nil, boolean, whole_number, text, atom, list, tuple, map_of, slot, Values, no_values, value, Assigns, no_assigns, assign}
+use Rattle.value_core.specs.Value.{Value, nil, boolean, whole_number, text, atom, list, tuple, map_of, Values, no_values, value, Assigns, no_assigns, assign}
 
 abbrev mutual
   pub depth_of : Value → ℕ
   depth_of (list vs) = suc (values_depth vs)
   depth_of (tuple vs) = suc (values_depth vs)
   depth_of (map_of as') = suc (assigns_depth as')
-  depth_of (slot b as' vs) = max (assigns_depth as') (assigns_depth vs)
   depth_of _ = 0
 
   pub values_depth : Values → ℕ

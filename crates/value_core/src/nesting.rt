@@ -5,7 +5,8 @@ ghost use Rattle.value_core.specs.View.{view, values_view, assigns_view};
 
 use crate::{Assigns, Value, Values};
 
-/// How deep a value nests: each list, tuple and map is one level, an empty one too, and a slot adds none. A depth that
+/// How deep a value nests: each list, tuple and map is one level, an empty one too, and a slot adds
+/// none, whatever it captured. A depth that
 /// does not fit 32 bits counts as the greatest that does.
 #[cycle(depth)]
 pub fn depth(value: &Value) -> u32
@@ -14,7 +15,6 @@ pub fn depth(value: &Value) -> u32
     match value {
         Value::List(items) | Value::Tuple(items) => depth_of_items(items).saturating_add(1),
         Value::Map(entries) => depth_of_entries(entries).saturating_add(1),
-        Value::Slot(slot) => depth_of_entries(&slot.names).max(depth_of_entries(&slot.variables)),
         _ => 0,
     }
 }

