@@ -1,0 +1,4 @@
+pub mod Words
+pub mod Exit
+pub mod Script
+pub mod Offline
