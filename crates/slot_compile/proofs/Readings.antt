@@ -202,12 +202,11 @@ ComesFrom parts done ns = (more : List Node) × (ns ≡ done ++ more) × FollowT
 one_more_part : (part : List ℕ) (parts : List (List ℕ)) (done ns m : List Node) → IsPart part m → lacks 123 part ≡ true → ComesFrom parts (done ++ m) ns → ComesFrom (part ∷ parts) done ns
 one_more_part part parts done ns m (n, u, is, name, h, all) lack (more, whole, follow, join) =
     let brace : lacks 123 (n ++ 125 ∷ u) ≡ true = sym (ap (lacks 123) is) ∙ lack in
-    let k : lacks 123 u ≡ true = lacks_behind 123 n (125 ∷ u) brace in
-    (
-        node.Put n ∷ (text_piece u ++ more),
-        whole ∙ ap (λ a. (done ++ a) ++ more) all ∙ append_assoc done (node.Put n ∷ text_piece u) more,
-        (name, are_pieces u more h k follow),
-        λ t. ap (λ s. t ++ 123 ∷ s) (join part ∙ ap (λ p. p ++ source_of more) is ∙ ap (λ s. 64 ∷ s) (append_assoc n (125 ∷ u) (source_of more)) ∙ ap (λ s. 64 ∷ (n ++ 125 ∷ s)) (sym (source_text u more))),
+    let k : lacks 123 u ≡ true = lacks_behind 123 n (125 ∷ u) brace in (
+      node.Put n ∷ (text_piece u ++ more),
+      whole ∙ ap (λ a. (done ++ a) ++ more) all ∙ append_assoc done (node.Put n ∷ text_piece u) more,
+      (name, are_pieces u more h k follow),
+      λ t. ap (λ s. t ++ 123 ∷ s) (join part ∙ ap (λ p. p ++ source_of more) is ∙ ap (λ s. 64 ∷ s) (append_assoc n (125 ∷ u) (source_of more)) ∙ ap (λ s. 64 ∷ (n ++ 125 ∷ s)) (sym (source_text u more))),
     )
 
 parts_come_from : (parts : List (List ℕ)) (done ns : List Node) → list_all (lacks 123) parts ≡ true → with_holes done parts ≡ Some ns → ComesFrom parts done ns
