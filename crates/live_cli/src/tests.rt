@@ -2,7 +2,10 @@ use crate::command::offline;
 use crate::status::Status;
 use std::alloc::Global;
 use std::test::Fail;
-use text_core::{ByKey, Bytes, Failing, HeldFolder, HeldSink, HeldSource, OutOfMemory, Seq, Text};
+use text_core::{
+    ByKey, Bytes, Failing, Folder, HeldFolder, HeldSink, HeldSource, OutOfMemory, Seq, Sink,
+    Source, Text,
+};
 
 const MANIFEST: &str =
     "{\"version\":1,\"views\":[{\"path\":\"/\",\"template\":\"home\",\"mount\":[[\"assign\",\"n\",\"0\"],[\"assign\",\"count\",\"42\"]]}]}";
@@ -64,12 +67,17 @@ fn pages(rt: HostRuntime) -> Result<(), Fail> {
         ("", HELLO, Status::Done, "== A html 0\n\n"),
         ("<p>{@n}</p>", TWO_BROWSERS, Status::Done, TWO_FRAMES),
         (
-            "a{@n} b{@count}<p>c {@n}{@count}</p> d",
+            "<p>a{@n} b{@count} c</p>",
             HELLO,
             Status::Done,
-            "== A html 20\na0 b42<p>c 042</p> d\n",
+            "== A html 15\n<p>a0 b42 c</p>\n",
         ),
-        ("{@count}{@n}", HELLO, Status::Done, "== A html 3\n420\n"),
+        (
+            "{@count}{@n} x{@n}",
+            HELLO,
+            Status::Done,
+            "== A html 6\n420 x0\n",
+        ),
         ("{@n}", "browser A\nhtml A\n", Status::Done, "== A down\n"),
         ("{@n}", "# nothing\n\n", Status::Done, ""),
         ("<p>{@m}</p>", HELLO, Status::Refused, "refused: NotYet\n"),
