@@ -44,6 +44,7 @@ fn hello_is_loaded(rt: HostRuntime) -> Result<(), Fail> {
     let mut folder = folder(alloc, &files)?;
     let Bundle { compiled, mount } = load(alloc, &mut folder)?;
     assert_eq!(rt; compiled.statics()[0].as_str(), "<p>");
+    assert_eq!(rt; compiled.places().len(), 1);
     assert_eq!(rt; compiled.places()[0].as_str(), "n");
     assert_eq!(rt; mount.len(), 1);
     let Step::Assign { name, value } = &mount.as_slice()[0];
@@ -136,17 +137,22 @@ fn files(rt: HostRuntime) -> Result<(), Fail> {
     Ok(())
 }
 
+fn letters(alloc: Global, count: usize) -> Result<Vec<u8>, OutOfMemory> {
+    Ok(vec![in alloc; b'a'; count]?)
+}
+
 #[test]
 fn sizes(rt: HostRuntime) -> Result<(), Fail> {
     let alloc = rt.alloc();
     let manifest = ("bundle.json", MANIFEST.as_bytes());
-    let text = vec![in alloc; b'a'; 1_048_577]?;
+    let greatest = letters(alloc, 1_048_576)?;
     assert_eq!(rt;
-        fault(alloc, &[manifest, ("home.html.heex", &text[..1_048_576])])?,
+        fault(alloc, &[manifest, ("home.html.heex", greatest.as_slice())])?,
         None
     );
+    let large = letters(alloc, 1_048_577)?;
     assert_eq!(rt;
-        fault(alloc, &[manifest, ("home.html.heex", text.as_slice())])?,
+        fault(alloc, &[manifest, ("home.html.heex", large.as_slice())])?,
         Some(LoadFault::Refused)
     );
     Ok(())
