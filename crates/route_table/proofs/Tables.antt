@@ -1,5 +1,5 @@
 -- Paths added one by one.
-use Rattle.std.proofs.Common.{◌≡◌, ◌≤◌, ◌<◌, ℕ, ◌+◌, List, [], ◌∷◌, length, get_or, drop, Option, Some, None, Result, Ok, Err, refl, sym, ap, ◌∙◌, subst, arith}
+use Rattle.std.proofs.Common.{◌≡◌, ◌<◌, ℕ, ◌+◌, List, length, get_or, drop, Some, Result, Err, sym, ap, ◌∙◌}
 use Rattle.text_core.proofs.Keyed.{cons_at}
 use Rattle.route_table.specs.declared.table.RouteFault.{RouteFault}
 use Rattle.route_table.specs.declared.table.RouteFault.TheVariants.{BadRoute, OutOfMemory}

@@ -1,10 +1,9 @@
 -- What a URL finds in the rows of `matchit`.
-use Rattle.std.specs.Prelude.{◌≡◌, ℕ, List, [], ◌∷◌, ◌==◌, Option, option_map, if◌then◌else◌, fold, map}
+use Rattle.std.specs.Prelude.{◌≡◌, ℕ, List, [], ◌∷◌, ◌==◌, Option, option_map, if◌then◌else◌, fold}
 use Rattle.std.specs.List.{slice_split, zip}
 use Rattle.std.specs.Str.{is_utf8, IsUtf8}
 use Rattle.percent_encoding.specs.Percent.{percent_decode}
 use Rattle.matchit.specs.Seek.{first}
-use Rattle.matchit.specs.Router.{RouteOf}
 use Rattle.text_core.specs.declared.by_key.KeyValue.{KeyValue}
 use Rattle.text_core.specs.Keyed.{with_key}
 use Rattle.value_core.specs.Value.{Value, text, Assigns}

@@ -154,7 +154,6 @@ fn bad_paths_are_named(rt: HostRuntime) -> Result<(), Fail> {
         (["/ä"].as_slice(), 0),
         (["/a", "/b", "/a"].as_slice(), 2),
         (["/:a", "/:b"].as_slice(), 1),
-        (["/:a/x", "/:b/y"].as_slice(), 1),
         (["/*a"].as_slice(), 0),
         (["/a?b"].as_slice(), 0),
     ] {

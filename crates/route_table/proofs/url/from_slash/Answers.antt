@@ -1,4 +1,4 @@
-use Rattle.std.proofs.Common.{◌≡◌, ◌<◌, lit<, sym, ◌∙◌}
+use Rattle.std.proofs.Common.{◌<◌, lit<, sym, ◌∙◌}
 use Rattle.std.proofs.Math.Seq.{drop-length}
 use Rattle.std.proofs.lemmas.Str.Pattern.{find_char}
 use Rattle.route_table.proofs.Urls.{slash_at, slash_none}
