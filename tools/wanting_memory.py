@@ -19,7 +19,7 @@ WHOLE = (TOP / "crates" / "live_cli" / "stdout").read_bytes()
 def run(program, library, fail_at):
     environment = {**os.environ, "LD_PRELOAD": str(library), "FAIL_AT": str(fail_at)}
     script = (HELLO / "script.txt").read_bytes()
-    ended = subprocess.run([program, "replay", HELLO], input=script, capture_output=True, env=environment, timeout=20)
+    ended = subprocess.run([program, "replay", HELLO / "bundle"], input=script, capture_output=True, env=environment, timeout=20)
     return ended.returncode, ended.stdout
 
 
