@@ -8,9 +8,11 @@ static unsigned long fail_at;
 
 static int fails(void)
 {
-    if (fail_at == 0) {
+    if (fail_at == 0) { /* not read yet; 0 in FAIL_AT stands for none */
         const char *text = getenv("FAIL_AT");
-        fail_at = text ? strtoul(text, NULL, 10) : -1UL;
+        fail_at = text ? strtoul(text, NULL, 10) : 0;
+        if (fail_at == 0)
+            fail_at = -1UL;
     }
     return ++calls == fail_at;
 }
