@@ -1,4 +1,0 @@
-pub mod Places
-pub mod Paths
-pub mod Depths
-pub mod Pairs

@@ -1,3 +1,0 @@
-pub mod Urls
-pub mod Segments
-pub mod Tables

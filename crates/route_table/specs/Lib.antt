@@ -1,4 +1,0 @@
-pub mod Route
-pub mod Table
-pub mod Url
-pub mod Found
