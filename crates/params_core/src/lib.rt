@@ -1,0 +1,10 @@
+//! The value of a form or a query by its pairs.
+#![tactic(auto)]
+
+mod form;
+mod path;
+mod putting;
+#[cfg(test)]
+mod tests;
+
+pub use form::read_form;

@@ -1,0 +1,3 @@
+pub mod Urls
+pub mod Segments
+pub mod Tables

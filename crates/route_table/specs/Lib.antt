@@ -1,0 +1,4 @@
+pub mod Route
+pub mod Table
+pub mod Url
+pub mod Found

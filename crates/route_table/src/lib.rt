@@ -1,0 +1,12 @@
+//! Paths to the numbers of views, by `matchit`.
+#![tactic(auto)]
+
+mod find;
+mod route;
+mod table;
+#[cfg(test)]
+mod tests;
+mod url;
+
+pub use find::Found;
+pub use table::{Paths, RouteFault, Routes};
