@@ -1,4 +1,4 @@
 pub mod Cuts
 pub mod Readings
 pub mod Tags
-pub mod Weaves
+pub mod Syntax
