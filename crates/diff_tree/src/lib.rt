@@ -1,2 +1,6 @@
 //! Trees, diffs and what a client makes of them.
 #![tactic(auto)]
+
+mod part;
+
+pub use part::{Diff, Part, PlaceValue};
