@@ -11,7 +11,7 @@ use Rattle.doc_model.specs.Evaluation.{Res, then_do, on_res}
 use Rattle.doc_model.specs.Scopes.{Site}
 use Rattle.doc_model.specs.Bundle.{site_of}
 use Rattle.doc_model.specs.Effects.{Effect, assign_to, Handler, of_view, of_module, ViewMeaning, Waiting}
-use Rattle.doc_model.specs.Message.{MessageHead, plain_value, Message, join, event}
+use Rattle.wire_v2.specs.Message.{MessageHead, plain_value, Message, join, event}
 use Rattle.doc_model.specs.Process.{World, Route, Page, ProcessState, begin_state, page_text, Stepped, step_message}
 use Rattle.doc_model.proofs.ExampleParts.{tag, place, one, put_assign, no_body}
 

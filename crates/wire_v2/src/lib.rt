@@ -1,0 +1,2 @@
+//! The messages of a browser, and the bytes that spell them.
+#![tactic(auto)]
