@@ -13,7 +13,7 @@ use Rattle.doc_model.specs.Bundle.{site_of}
 use Rattle.view_api.specs.Effect.{Effect, assign_to}
 use Rattle.view_api.specs.Meaning.{Handler, of_view, of_module, ViewMeaning}
 use Rattle.doc_model.specs.Effects.{Waiting}
-use Rattle.doc_model.specs.Message.{MessageHead, plain_value, Message, join, event}
+use Rattle.wire_v2.specs.Message.{MessageHead, plain_value, Message, join, event}
 use Rattle.doc_model.specs.Process.{World, Route, Page, ProcessState, begin_state, page_text, Stepped, step_message}
 use Rattle.doc_model.proofs.ExampleParts.{tag, place, one, put_assign, no_body}
 

@@ -20,6 +20,5 @@ pub mod Table
 pub mod Session
 pub mod Run
 pub mod Laws
-pub mod Message
 pub mod Process
 pub mod Journal

@@ -24,7 +24,7 @@ use Rattle.value_core.specs.Json.{value_of_json}
 use Rattle.view_api.specs.Effect.{Effect}
 use Rattle.view_api.specs.Meaning.{Handler, of_view, of_module, ViewMeaning}
 use Rattle.doc_model.specs.Effects.{Action, Waiting, heard, mailed, sent, Rest, Applied, applied_or_raise, empty_stream, views_of}
-use Rattle.doc_model.specs.Message.{MessageHead, EventValue, plain_value, form_text, Message, beat, join, leave, event, patch, will_destroy, destroyed, message_of}
+use Rattle.wire_v2.specs.Message.{MessageHead, EventValue, plain_value, form_text, Message, beat, join, leave, event, patch, will_destroy, destroyed, message_of}
 
 -- the view that a URL leads to, and its params
 pub record Route : Type 0 where
