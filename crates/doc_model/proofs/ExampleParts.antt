@@ -1,7 +1,8 @@
 -- Short names for the templates of the examples.
-use Rattle.std.proofs.Common.{ℕ, List, [], ◌∷◌, Option, Some, None, Ok, Bool, true, false, codes, ◌≡◌}
+use Rattle.std.proofs.Common.{ℕ, pos, List, [], ◌∷◌, Option, Some, None, Ok, Bool, true, false, codes, ◌≡◌}
 use Rattle.value_core.specs.Value.{Value, text, list, boolean, nil, Values, no_values, value, Assigns, no_assigns, assign}
-use Rattle.ast_core.specs.Syntax.{Location, Name, at, var, Expr, name, any, Attributes, no_attributes, written, double_quoted, valued, Node, text_node, element, at_place, Place, put, Nodes, no_nodes, node, Body, slot_body, Linked, Template}
+use Rattle.ast_core.specs.Syntax.{Location, Name, at, var, Expr, number, name, text_of, list_of, map_with, no_parts, plain, any, Attributes, no_attributes, written, double_quoted, valued, Node, text_node, element, at_place, Place, put, Nodes, no_nodes, node, Body, slot_body, Linked, Template}
+use Rattle.ast_core.specs.ExprView.{exprs_of, pairs_of}
 use Rattle.diff_tree.specs.Container.{Row, Batch}
 use Rattle.doc_model.specs.Environment.{Stream, Component, Env}
 use Rattle.doc_model.specs.Evaluation.{Res, then_do}
@@ -64,3 +65,28 @@ texts_list ts = list (all ts)
 -- what two renderings of the same nodes meet
 abbrev pub between : {A : Type 0} → Site → Nodes → Env → Env → (Items → Items → A) → Res A
 between site ns a b f = then_do (trace site 41 a ns) (λ x. then_do (trace site 41 b ns) (λ y. Ok (f x y)))
+
+-- nodes, one after the other
+abbrev pub all_nodes : List Node → Nodes
+all_nodes [] = no_nodes
+all_nodes (n ∷ ns) = node n (all_nodes ns)
+
+-- `"t"`, `n`, `@k`, `k`
+abbrev pub quote : List ℕ → Expr
+quote t = text_of (plain t no_parts)
+
+abbrev pub int : ℕ → Expr
+int n = number (pos n)
+
+abbrev pub assigned : List ℕ → Expr
+assigned k = name (at k)
+
+abbrev pub variable : List ℕ → Expr
+variable k = name (var k)
+
+-- `[..]` and `%{k: e, ..}`
+abbrev pub list_expr : List Expr → Expr
+list_expr es = list_of (exprs_of es)
+
+abbrev pub map_expr : List (List ℕ × Expr) → Expr
+map_expr ps = map_with (pairs_of ps)
