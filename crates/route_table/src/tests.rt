@@ -49,6 +49,8 @@ fn urls_find_views(rt: HostRuntime) -> Result<(), Fail> {
             "/s/:a/:a",
             "/users/:id/posts/:post",
             "/:lang/help/:topic",
+            "/:a/x",
+            "/:b/y",
         ],
     )?;
     assert!(rt; paths.len() < 100);
@@ -95,6 +97,9 @@ fn urls_find_views(rt: HostRuntime) -> Result<(), Fail> {
         ("/users/help", "2 {\"id\":\"help\"} "),
         ("/en/help/x", "10 {\"lang\":\"en\",\"topic\":\"x\"} "),
         ("/en/help/", "none"),
+        ("/1/x", "11 {\"a\":\"1\"} "),
+        ("/1/y", "12 {\"b\":\"1\"} "),
+        ("/1/z", "none"),
         ("/f.html", "6 {} "),
         ("/fxhtml", "none"),
         ("/f%2Ehtml", "none"),
@@ -154,6 +159,7 @@ fn bad_paths_are_named(rt: HostRuntime) -> Result<(), Fail> {
         (["/ä"].as_slice(), 0),
         (["/a", "/b", "/a"].as_slice(), 2),
         (["/:a", "/:b"].as_slice(), 1),
+        (["/:a/x", "/:b/y", "/:b/x"].as_slice(), 2),
         (["/*a"].as_slice(), 0),
         (["/a?b"].as_slice(), 0),
     ] {
