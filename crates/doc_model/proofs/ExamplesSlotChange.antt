@@ -3,7 +3,7 @@ use Rattle.std.proofs.Common.{◌≡◌, List, [], ◌∷◌, ◌++◌, Some, Ok
 use Rattle.std.specs.Fmt.{digits}
 use Rattle.json.specs.Print.{escape_byte}
 use Rattle.ast_core.specs.Syntax.{nil_of, any, no_attributes, call, render_slot, Nodes, Body, slot_body, no_entries, Template}
-use Rattle.doc_model.specs.Effects.{ViewMeaning}
+use Rattle.view_api.specs.Meaning.{ViewMeaning}
 use Rattle.doc_model.specs.Process.{World, Stepped}
 use Rattle.doc_model.proofs.ExampleParts.{tag, place, one, put_assign, quote, assigned}
 use Rattle.doc_model.proofs.ExampleWorlds.{assign_step, scripted, world_of, joined, event_after, carried_text, client_page, full_page}
