@@ -16,17 +16,14 @@ use value_core::{Assigns, Value};
 struct Greeting;
 
 impl Views for Greeting {
-    ghost mounts = { λ _ view _. if view == 0 then Some (assign_to (codes "greeting") (text (codes "hello")) ∷ []) else None };
-
-    ghost takes_params = { λ _ _ _ _. Some [] };
-
-    ghost takes_event = { λ _ _ _ _ _. None };
-
-    ghost takes_info = { λ _ _ message _. Some (push_event (codes "told") message ∷ []) };
-
-    ghost mounts_component = { λ _ _. None };
-
-    ghost updates_component = { λ _ _ _ _. None };
+    ghost meaning = { λ _. record {
+        mount = λ view _. if view == 0 then Some (assign_to (codes "greeting") (text (codes "hello")) ∷ []) else None;
+        handle_params = λ _ _ _. Some [];
+        handle_event = λ _ _ _ _. None;
+        handle_info = λ _ message _. Some (push_event (codes "told") message ∷ []);
+        mount_component = λ _. None;
+        update_component = λ _ _ _. None;
+    } };
 
     fn mount(&self, alloc: Global, view: u32, _params: &Value) -> Result<Effects, ViewFault> {
         if view != 0 {
@@ -95,7 +92,7 @@ fn begin<V: Views>(
     view: u32,
     params: &Value,
 ) -> Result<Effects, ViewFault>
-    ensures { Means result (V.mounts views.now view (value_view params.now)) }
+    ensures { Means result ((V.meaning views.now).mount view (value_view params.now)) }
 {
     views.mount(alloc, view, params)
 }
@@ -106,7 +103,7 @@ fn click<V: Views>(
     event: &Text,
     assigns: &Assigns,
 ) -> Result<Effects, ViewFault>
-    ensures { Means result (V.takes_event views.now (Owner.View 0) event.now (value_view Value.Nil) (assigns_view assigns.now)) }
+    ensures { Means result ((V.meaning views.now).handle_event (Owner.View 0) event.now (value_view Value.Nil) (assigns_view assigns.now)) }
 {
     views.handle_event(alloc, Owner::View(0), event, &Value::Nil, assigns)
 }

@@ -1,10 +1,2 @@
 //! The messages of a browser, and the bytes that spell them.
 #![tactic(auto)]
-
-mod event;
-mod head;
-mod message;
-
-pub use event::EventValue;
-pub use head::MessageHead;
-pub use message::{Message, MessageFault};
