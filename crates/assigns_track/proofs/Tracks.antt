@@ -1,5 +1,5 @@
 -- What an assign leaves.
-use Rattle.std.proofs.Common.{◌≡◌, ℕ, List, [], ◌∷◌, Option, Some, None, option_map, Bool, true, false, not, true≢false, refl, sym, ap, ◌∙◌, subst, Less, Equal, Greater, nat_cmp}
+use Rattle.std.proofs.Common.{◌≡◌, ℕ, List, [], ◌∷◌, Option, Some, None, option_map, Bool, true, false, not, ◌||◌, true≢false, refl, sym, ap, ◌∙◌, subst, Less, Equal, Greater, nat_cmp}
 use Rattle.std.specs.Str.{bytes_eq}
 use Rattle.std.specs.Option.{is_some}
 use Rattle.std.specs.Ordering.{is_eq, match_ordering}
@@ -67,6 +67,23 @@ without_with {T} k v (e ∷ es) h = by (slice_cmp nat_cmp k e.key) refl (without
     by Greater is rest =
         let other : bytes_eq k e.key ≡ false = sym (is_eq-slice_cmp k e.key) ∙ ap is_eq is in
         rw other (ap (λ l. e ∷ l) (rest (rw other at h)))
+
+module _ (k : List ℕ) (before : List (KeyValue (Option Value))) where
+  -- a name that was assigned before is so again
+  pub noted_again : is_some (lookup k before) ≡ true → (n : List ℕ) → is_some (lookup n before) ≡ (bytes_eq n k || is_some (lookup n before))
+  noted_again h n = by (bytes_eq n k) refl
+    where
+      by : (b : Bool) → bytes_eq n k ≡ b → is_some (lookup n before) ≡ (b || is_some (lookup n before))
+      by true is = subst (λ m. is_some (lookup m before) ≡ true) (sym ((bytes_eq-Decides n k).0 is)) h
+      by false is = refl
+
+  -- and a name that was not is so from now on
+  pub noted_first : (o : Option Value) (n : List ℕ) → is_some (lookup n (with_key k o before)) ≡ (bytes_eq n k || is_some (lookup n before))
+  noted_first o n = by (bytes_eq n k) refl
+    where
+      by : (b : Bool) → bytes_eq n k ≡ b → is_some (lookup n (with_key k o before)) ≡ (b || is_some (lookup n before))
+      by true is = subst (λ m. is_some (lookup m (with_key k o before)) ≡ true) (sym ((bytes_eq-Decides n k).0 is)) (ap is_some (lookup_set k o before))
+      by false is = ap is_some (lookup_other n k o before is)
 
 module _ (k : List ℕ) (v : Value) (present : List (KeyValue Value)) (before : List (KeyValue (Option Value))) where
   -- a name that was noted keeps its note

@@ -1,9 +1,10 @@
 //! Assigns that know which of their values have changed.
-ghost use Rattle.std.specs.Prelude.{◌≡◌, ◌↔◌, ℕ, List, [], None, false, IfOk, OnOk, OnErr, option_map};
+ghost use Rattle.std.specs.Prelude.{◌≡◌, ◌↔◌, ◌||◌, ℕ, List, [], None, false, IfOk, OnOk, OnErr, option_map};
 ghost use Rattle.std.specs.Option.{option_copied};
+ghost use Rattle.std.specs.Str.{bytes_eq};
 ghost use Rattle.text_core.specs.Keyed.{with_key, without_key};
 ghost use Rattle.value_core.specs.View.{view};
-ghost use Rattle.assigns_track.specs.Track.{present_of, settled_of, differ};
+ghost use Rattle.assigns_track.specs.Track.{present_of, settled_of, was_assigned, differ};
 
 use std::alloc::Global;
 use text_core::{ByKey, OutOfMemory, Text};
@@ -23,6 +24,7 @@ impl Tracked {
     pub fn new(alloc: Global) -> Tracked
         ensures present { result.present ≡ [] }
         ensures settled { (n : List ℕ) → settled_of result n ≡ None }
+        ensures assigned { (n : List ℕ) → was_assigned result n ≡ false }
     {
         Tracked {
             alloc,
@@ -72,6 +74,7 @@ impl Tracked {
     pub fn assign(&mut self, name: &str, value: Value) -> Result<(), OutOfMemory>
         ensures present { OnOk result (self.new.present ≡ with_key name.now value self.old.present) }
         ensures settled { OnOk result ((n : List ℕ) → settled_of self.new n ≡ settled_of self.old n) }
+        ensures assigned { OnOk result ((n : List ℕ) → was_assigned self.new n ≡ (bytes_eq n name.now || was_assigned self.old n)) }
         ensures err { OnErr result (self.new ≡ self.old) }
     {
         let key = Text::copy_of(self.alloc, name)?;
@@ -94,6 +97,7 @@ impl Tracked {
     pub fn settle(&mut self)
         ensures present { self.new.present ≡ self.old.present }
         ensures settled { (n : List ℕ) → settled_of self.new n ≡ present_of self.old n }
+        ensures assigned { (n : List ℕ) → was_assigned self.new n ≡ false }
     {
         self.before = ByKey::new(self.alloc);
     }
