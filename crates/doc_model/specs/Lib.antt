@@ -23,3 +23,4 @@ pub mod Laws
 pub mod Message
 pub mod Process
 pub mod Journal
+pub mod Headline
