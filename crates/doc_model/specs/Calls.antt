@@ -6,7 +6,8 @@ use Rattle.value_core.specs.declared.raise.Raise.TheVariants.{BadArgument, Deep}
 use Rattle.ast_core.specs.Syntax.{Name, Expr, Pattern, Generator, Written, double_quoted, single_quoted, bare, Attributes, no_attributes, written, valued, spread_of, module_of, Node, text_node, element, at_place, Nodes, no_nodes, node, Body, slot_body, Entries, no_entries, entry}
 use Rattle.ast_core.specs.Free.{bound, without, free_nodes, free_body}
 use Rattle.doc_model.specs.Environment.{Env, lookup, with_key, bind, bindings, captured_assigns, captured_variables}
-use Rattle.doc_model.specs.Evaluation.{Res, then_do, both, on_res, eval_expr, keep_last, is_true, append_values, assigns_depth}
+use Rattle.value_core.specs.Nesting.{assigns_depth}
+use Rattle.doc_model.specs.Evaluation.{Res, then_do, both, on_res, eval_expr, keep_last, is_true, append_values}
 
 -- what an attribute without braces passes: its text as written, or true
 abbrev pub written_value : Written → Value

@@ -1,20 +1,27 @@
 -- The laws of whole trees and lean diffs.
-use Rattle.std.specs.Prelude.{◌≡◌, ℕ, ◌+◌, ◌≤◌, Option, Some, None, Ok}
+use Rattle.std.specs.Prelude.{◌≡◌, ℕ, ◌+◌, ◌≤◌, List, Option, Some, None, Ok}
 use Rattle.doc_model.specs.Environment.{Env}
+use Rattle.doc_model.specs.Evaluation.{on_res}
 use Rattle.ast_core.specs.Syntax.{Nodes}
-use Rattle.doc_model.specs.Trace.{Items}
+use Rattle.doc_model.specs.Trace.{Items, texts}
 use Rattle.doc_model.specs.Holding.{Fresh}
 use Rattle.doc_model.specs.Scopes.{Site}
 use Rattle.doc_model.specs.FullRendering.{full_render}
 use Rattle.doc_model.specs.Tracing.{trace}
 use Rattle.ast_core.specs.Places.{cut}
-use Rattle.diff_tree.specs.Client.{PageTree, show_tree, merge_diff, judged, opened_tree}
+use Rattle.diff_tree.specs.Tree.{weave}
+use Rattle.diff_tree.specs.Frame.{Frame, client_takes_all}
+use Rattle.diff_tree.specs.Client.{PageTree, PageDiff, show_tree, merge_diff, judged, opened_tree}
 use Rattle.doc_model.specs.Components.{HeldTree, Distinct, AllOf, parts, depth, whole_tree, lean_diff, Follows}
 
 -- something is given, and the fact holds of it
 abbrev pub Gives : {A : Type 0} → (A → Type 0) → Option A → Type 0
 Gives P None = ⊥
 Gives P (Some x) = P x
+
+-- the constant text of nodes, woven with what their places show, is the full rendering, and both raise alike
+abbrev pub StaticsWeave : Type 0
+StaticsWeave = (site : Site) (k : ℕ) (env : Env) (ns : Nodes) → on_res (λ is. weave (cut ns) (texts site.mark is)) (trace site k env ns) ≡ full_render site k env ns
 
 -- a whole page shows the full rendering: the one that is sent where all streams begin empty, and the one that a client holds
 abbrev pub WholeTreeShows : Type 0
@@ -40,3 +47,12 @@ abbrev pub TakenWhole : Type 0
 TakenWhole = (site : Site) (k : ℕ) (env : Env) (ns : Nodes) (is : Items) → trace site k env ns ≡ Ok is → Distinct (parts is)
     → Fresh is → AllOf (λ p. Fresh p.items) (parts is) → (n : ℕ) → depth is ≤ n
     → Gives (HeldTree site.mark (cut ns) is) (judged n (opened_tree (whole_tree (cut ns) is)))
+
+-- a merge that is defined with some number of levels gives the same tree with more, and no other with fewer
+abbrev pub MergeIgnoresLevels : Type 0
+MergeIgnoresLevels = (k l : ℕ) (p q : PageTree) (d : PageDiff) → merge_diff k p d ≡ Some q
+    → (k ≤ l → merge_diff l p d ≡ Some q) × ((r : PageTree) → merge_diff l p d ≡ Some r → r ≡ q)
+
+-- what a client makes of frames is the same with more levels
+abbrev pub ClientIgnoresLevels : Type 0
+ClientIgnoresLevels = (k l : ℕ) (h h' : Option PageTree) (fs : List Frame) → k ≤ l → client_takes_all k h fs ≡ Some h' → client_takes_all l h fs ≡ Some h'

@@ -7,6 +7,7 @@ use Rattle.value_core.specs.Value.{Value, Assigns, no_assigns}
 use Rattle.value_core.specs.declared.raise.Raise.TheVariants.{BadArgument}
 use Rattle.ast_core.specs.Syntax.{Nodes}
 use Rattle.ast_core.specs.Places.{cut}
+use Rattle.diff_tree.specs.Container.{is_none}
 use Rattle.diff_tree.specs.Client.{PageTree, PageDiff}
 use Rattle.diff_tree.specs.Spelling.{Pushed}
 use Rattle.diff_tree.specs.Frame.{Frame, FrameBody, empty, rendered, changed, refusal, no_cids, push, closed, faulted}
@@ -170,11 +171,7 @@ rest_of g inbox = record { generation = g; inbox = inbox; actions = []; pushed =
 
 -- nothing has changed, and nothing was pushed
 abbrev pub no_difference : PageDiff → List Pushed → Bool
-no_difference d [] = is_empty d.root && none d.components
-  where
-    none : {A : Type 0} → List A → Bool
-    none [] = true
-    none (x ∷ xs) = false
+no_difference d [] = is_empty d.root && is_none d.components
 no_difference d (e ∷ es) = false
 
 -- a reply carries the diff, or nothing where it is empty; a push is absent there

@@ -1,7 +1,8 @@
 //! What the definitions keep: each law is the promise of a function that does nothing.
 
 ghost use Rattle.doc_model.specs.Effects.{Rest};
-ghost use Rattle.doc_model.specs.Laws.{HeldTreeShows, MergeLeanWhole, TakenWhole, WholeTreeShows};
+ghost use Rattle.doc_model.specs.Headline.{BundleLinks, JournalIsLean, JournalShows, LawfulHolds, SessionGoesOn};
+ghost use Rattle.doc_model.specs.Laws.{ClientIgnoresLevels, HeldTreeShows, MergeIgnoresLevels, MergeLeanWhole, StaticsWeave, TakenWhole, WholeTreeShows};
 ghost use Rattle.doc_model.specs.Mark.{MarkIsAtRoot};
 ghost use Rattle.doc_model.specs.Run.{SessionShows, SettledShows};
 ghost use Rattle.doc_model.specs.Session.{FramesShow};
@@ -63,4 +64,51 @@ pub fn session_shows()
 /// The state after its batches were applied shows what the rendering showed.
 pub fn settled_shows()
     ensures { SettledShows }
+{}
+
+/// A bundle is linked where no stream has two places in one of its templates.
+pub fn bundle_links()
+    ensures { BundleLinks }
+{}
+
+/// After any entries, lawful or not, the frames since the latest join merge and show the page, where
+/// no stream has two places in one template.
+#[tactic(auto, using(crate::proofs::Journals::journal_shows))]
+pub fn journal_shows()
+    ensures { JournalShows }
+{}
+
+/// The frames of a lawful journal carry whole trees and lean diffs.
+#[tactic(auto, using(crate::proofs::Leans::journal_is_lean))]
+pub fn journal_is_lean()
+    ensures { JournalIsLean }
+{}
+
+/// The four clauses of the headline hold of every lawful journal.
+#[tactic(auto, using(crate::proofs::Leans::lawful_holds))]
+pub fn lawful_holds()
+    ensures { LawfulHolds }
+{}
+
+/// A session that adds one allowed entry with its frames keeps the four clauses.
+pub fn session_goes_on()
+    ensures { SessionGoesOn }
+{}
+
+/// The constant text of nodes, woven with what their places show, is the full rendering.
+#[tactic(auto, using(crate::proofs::Levels::statics_weave))]
+pub fn statics_weave()
+    ensures { StaticsWeave }
+{}
+
+/// What a merge gives does not depend on the number of levels, where it is enough.
+#[tactic(auto, using(crate::proofs::Levels::merge_ignores_levels))]
+pub fn merge_ignores_levels()
+    ensures { MergeIgnoresLevels }
+{}
+
+/// What a client makes of frames does not depend on the number of levels, where it is enough.
+#[tactic(auto, using(crate::proofs::Levels::client_ignores_levels))]
+pub fn client_ignores_levels()
+    ensures { ClientIgnoresLevels }
 {}
