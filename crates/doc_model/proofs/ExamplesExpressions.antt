@@ -6,7 +6,7 @@ use Rattle.value_core.specs.declared.raise.Raise.TheVariants.{NoAssign, NoKey, B
 use Rattle.ast_core.specs.declared.operators.UnaryOp.TheVariants.{Minus as Negative}
 use Rattle.ast_core.specs.declared.operators.BinaryOp.TheVariants as op
 use Rattle.ast_core.specs.declared.operators.Function.TheVariants as call
-use Rattle.ast_core.specs.Syntax.{Expr, number, text_of, nil_of, boolean_of, list_of, field, index, unary, binary, call_of, no_exprs, no_parts, plain, put_part}
+use Rattle.ast_core.specs.Syntax.{Expr, text_of, nil_of, boolean_of, field, index, unary, binary, call_of, no_exprs, no_parts, plain, put_part}
 use Rattle.ast_core.specs.ExprView.{exprs_of, left_chain, right_chain, pipes_of}
 use Rattle.doc_model.specs.Evaluation.{Res, eval_expr}
 use Rattle.doc_model.proofs.ExampleParts.{scope, quote, int, assigned, list_expr, map_expr}
