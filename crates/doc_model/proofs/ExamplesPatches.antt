@@ -22,8 +22,8 @@ views = record (scripted [] [] [] []) {
 abbrev routed : World
 routed = record (world_of home_alone (one (tag (codes "p") no_attributes (all_nodes (put_assign (codes "m") ∷ put_assign (codes "u") ∷ [])))) views) {
   route = λ url. if bytes_eq url (codes "/") then Some (record { view = 0; params = text url })
-  else if bytes_eq url (codes "/a") then Some (record { view = 0; params = text url })
-  else if bytes_eq url (codes "/b") then Some (record { view = 1; params = text url }) else None;
+      else if bytes_eq url (codes "/a") then Some (record { view = 0; params = text url })
+      else if bytes_eq url (codes "/b") then Some (record { view = 1; params = text url }) else None;
 }
 
 abbrev start : Stepped
