@@ -1,5 +1,5 @@
 -- Worked examples: the messages of a browser as they are spelled.
-use Rattle.std.proofs.Common.{◌≡◌, ℕ, List, [], ◌∷◌, Some, codes, refl}
+use Rattle.std.proofs.Common.{◌≡◌, ℕ, List, Some, codes, refl}
 use Rattle.std.specs.Float.Numeral.{scan_numeral}
 use Rattle.json.specs.Json.{items, members, value}
 use Rattle.json.specs.Lex.{lex, punctuate}

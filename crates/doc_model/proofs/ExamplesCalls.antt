@@ -1,14 +1,14 @@
 -- Worked examples: what a call passes, and what `render_slot` makes of it.
-use Rattle.std.proofs.Common.{◌≡◌, ℕ, List, [], ◌∷◌, Option, Some, None, Ok, Err, true, false, codes, refl}
+use Rattle.std.proofs.Common.{◌≡◌, ℕ, List, [], ◌∷◌, Some, None, Ok, Err, codes, refl}
 use Rattle.std.specs.Fmt.{digits}
 use Rattle.value_core.specs.Value.{no_assigns}
-use Rattle.value_core.specs.declared.raise.Raise.TheVariants.{BadArgument, NoAssign, NoKey}
+use Rattle.value_core.specs.declared.raise.Raise.TheVariants.{BadArgument, NoAssign}
 use Rattle.ast_core.specs.declared.operators.BinaryOp.TheVariants.{Less}
-use Rattle.ast_core.specs.Syntax.{Expr, binary, nil_of, field, any, named, Attributes, no_attributes, written, double_quoted, valued, spread_of, put, call, render_slot, Nodes, no_nodes, Body, slot_body, Entries, no_entries, entry, Linked}
+use Rattle.ast_core.specs.Syntax.{Expr, binary, nil_of, any, named, Attributes, no_attributes, written, double_quoted, valued, spread_of, call, render_slot, Nodes, Body, slot_body, Entries, no_entries, entry, Linked}
 use Rattle.doc_model.specs.Evaluation.{Res}
 use Rattle.doc_model.specs.Bundle.{site_of}
 use Rattle.doc_model.specs.FullRendering.{full_render}
-use Rattle.doc_model.proofs.ExampleParts.{here, place, words, one, all_nodes, no_body, quote, int, assigned, variable, list_expr, map_expr, put_assign, put_variable, scope}
+use Rattle.doc_model.proofs.ExampleParts.{here, place, words, one, no_body, quote, int, assigned, variable, list_expr, map_expr, put_assign, put_variable, scope}
 
 -- a page that calls `t`, with these slot bodies in the bundle
 abbrev calling : Nodes → List Body → Attributes → Body → Entries → Res (List ℕ)

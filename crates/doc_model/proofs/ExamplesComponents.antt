@@ -1,5 +1,5 @@
 -- Worked examples: LiveComponents that move, meet, and are given other attributes.
-use Rattle.std.proofs.Common.{◌≡◌, ℕ, List, [], ◌∷◌, ◌++◌, true, false, Some, None, codes, refl}
+use Rattle.std.proofs.Common.{◌≡◌, [], ◌∷◌, ◌++◌, true, false, Some, codes, refl}
 use Rattle.std.specs.Fmt.{digits}
 use Rattle.json.specs.Print.{escape_byte}
 use Rattle.ast_core.specs.Syntax.{boolean_of, no_attributes, if_place}

@@ -1,5 +1,5 @@
 -- Worked examples: the journal of the counter event, from bytes to bytes.
-use Rattle.std.proofs.Common.{◌≡◌, ℕ, List, [], ◌∷◌, ◌++◌, map, Option, Some, None, option_map, Ok, codes, refl, subst, lit≤}
+use Rattle.std.proofs.Common.{◌≡◌, ℕ, List, [], ◌∷◌, Some, option_map, Ok, codes, refl, subst, lit≤}
 use Rattle.std.specs.Float.Numeral.{scan_numeral}
 use Rattle.std.specs.Fmt.{digits}
 use Rattle.json.specs.Json.{items, members, value}

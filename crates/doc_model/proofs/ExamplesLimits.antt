@@ -1,5 +1,5 @@
 -- Worked examples: keys in byte order, escapes in a frame, a frame that does not fit, and limits of nesting.
-use Rattle.std.proofs.Common.{◌≡◌, ℕ, zero, suc, List, [], ◌∷◌, ◌++◌, map, replicate, Option, Some, None, Ok, Err, true, codes, refl}
+use Rattle.std.proofs.Common.{◌≡◌, ℕ, zero, suc, List, [], ◌∷◌, ◌++◌, map, replicate, Some, None, Ok, Err, true, codes, refl}
 use Rattle.std.specs.Float.Numeral.{scan_numeral}
 use Rattle.std.specs.Fmt.{digits}
 use Rattle.json.specs.Json.{items, members, value}
@@ -12,13 +12,13 @@ use Rattle.value_core.specs.declared.raise.Raise.TheVariants.{Deep}
 use Rattle.value_core.specs.Value.{no_assigns}
 use Rattle.ast_core.specs.Syntax.{boolean_of, no_attributes, if_place, Nodes, no_nodes}
 use Rattle.diff_tree.specs.Tree as tr
-use Rattle.diff_tree.specs.Tree.{Changes, no_changes, skip, change, write}
+use Rattle.diff_tree.specs.Tree.{no_changes, skip, change, write}
 use Rattle.diff_tree.specs.Frame.{Frame, push}
 use Rattle.doc_model.specs.Bundle.{site_of}
 use Rattle.doc_model.specs.Effects.{heard}
 use Rattle.doc_model.specs.FullRendering.{full_render}
 use Rattle.doc_model.specs.Message.{message_of}
-use Rattle.doc_model.specs.Process.{World, Stepped, frame_of, step_waiting}
+use Rattle.doc_model.specs.Process.{World, frame_of, step_waiting}
 use Rattle.doc_model.proofs.ExampleParts.{tag, place, words, one, all_nodes, put_assign, quote, int, scope}
 use Rattle.doc_model.proofs.ExamplesPages.{counting, start}
 use Rattle.doc_model.proofs.ExampleWorlds.{assign_step, page_alone, home_alone, joined, event_after, frames_text, carried_text, client_page, full_page}

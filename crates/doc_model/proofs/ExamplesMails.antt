@@ -1,5 +1,5 @@
 -- Worked examples: mails, values that a process sends itself, pushed events, and what is published.
-use Rattle.std.proofs.Common.{◌≡◌, ℕ, pos, List, [], ◌∷◌, ◌++◌, Option, Some, None, codes, refl, if◌then◌else◌}
+use Rattle.std.proofs.Common.{◌≡◌, ℕ, pos, List, [], ◌∷◌, ◌++◌, Some, codes, refl, if◌then◌else◌}
 use Rattle.std.specs.Float.Numeral.{scan_numeral}
 use Rattle.std.specs.Fmt.{digits}
 use Rattle.std.specs.Str.{bytes_eq}
@@ -9,9 +9,9 @@ use Rattle.json.specs.Text.{content}
 use Rattle.json.specs.Word.{after_number, word}
 use Rattle.json.specs.Print.{escape_byte}
 use Rattle.serde_json.specs.Read.{number_of}
-use Rattle.value_core.specs.Value.{Value, whole_number, atom, map_of, Assigns, no_assigns, assign}
+use Rattle.value_core.specs.Value.{Value, whole_number, atom, map_of, no_assigns, assign}
 use Rattle.ast_core.specs.Syntax.{no_attributes}
-use Rattle.doc_model.specs.Effects.{Effect, assign_to, subscribe, publish, send_self, push_event, Action, to_subscribe, to_publish, mailed, sent, Handler, ViewMeaning}
+use Rattle.doc_model.specs.Effects.{Effect, assign_to, subscribe, publish, send_self, push_event, to_subscribe, to_publish, mailed, sent, ViewMeaning}
 use Rattle.doc_model.specs.Process.{World, Stepped, unchanged, step_waiting, handled_front}
 use Rattle.doc_model.proofs.ExampleParts.{tag, one, put_assign}
 use Rattle.doc_model.proofs.ExampleWorlds.{scripted, world_of, home_alone, joined, event_after, frames_text, client_page}

@@ -3,11 +3,11 @@ use Rattle.std.proofs.Common.{◌≡◌, ℕ, List, [], ◌∷◌, ◌++◌, Som
 use Rattle.std.specs.Fmt.{digits}
 use Rattle.std.specs.Str.{bytes_eq}
 use Rattle.json.specs.Print.{escape_byte}
-use Rattle.value_core.specs.Value.{text, map_of, no_assigns}
+use Rattle.value_core.specs.Value.{text}
 use Rattle.ast_core.specs.Syntax.{no_attributes}
 use Rattle.doc_model.specs.Effects.{assign_to, ViewMeaning}
 use Rattle.doc_model.specs.Message.{Message, patch, will_destroy, destroyed, join, head_of}
-use Rattle.doc_model.specs.Process.{World, Stepped, step_message, begin_state}
+use Rattle.doc_model.specs.Process.{World, Stepped, step_message}
 use Rattle.doc_model.proofs.ExampleParts.{tag, one, all_nodes, put_assign}
 use Rattle.doc_model.proofs.ExampleWorlds.{scripted, world_of, home_alone, head, joined, frames_text, client_page}
 
