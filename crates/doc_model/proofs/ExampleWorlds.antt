@@ -1,5 +1,5 @@
 -- Processes for the worked examples: views as handler steps, and what a browser is sent and shows.
-use Rattle.std.proofs.Common.{◌≡◌, ℕ, ℤ, List, [], ◌∷◌, ◌++◌, map, Result, Ok, Err, Option, Some, None, option_map, Bool, codes, if◌then◌else◌}
+use Rattle.std.proofs.Common.{ℕ, ℤ, List, [], ◌∷◌, map, Ok, Err, Option, Some, None, option_map, codes, if◌then◌else◌}
 use Rattle.std.specs.Str.{bytes_eq}
 use Rattle.serde_json.specs.Written.{compact_text}
 use Rattle.value_core.specs.Value.{Value, nil, map_of, Assigns, no_assigns, assign}
@@ -7,22 +7,22 @@ use Rattle.ast_core.specs.Syntax.{Expr, Nodes, Linked}
 use Rattle.diff_tree.specs.Container.{Row}
 use Rattle.diff_tree.specs.Client.{show_tree}
 use Rattle.diff_tree.specs.Spelling.{page_tree_json, page_diff_json}
-use Rattle.diff_tree.specs.Frame.{Frame, FrameBody, rendered, changed, push, client_takes_all}
+use Rattle.diff_tree.specs.Frame.{Frame, FrameBody, rendered, changed, push, frame_json, client_takes_all}
 use Rattle.doc_model.specs.Environment.{with_key}
 use Rattle.doc_model.specs.Evaluation.{Res, eval_expr}
 use Rattle.doc_model.specs.Bundle.{site_of}
 use Rattle.view_api.specs.Effect.{Effect, assign_to, stream_insert, stream_delete}
 use Rattle.view_api.specs.Meaning.{Handler, of_view, of_module, ViewMeaning}
-use Rattle.doc_model.specs.Message.{MessageHead, plain_value, Message, join, event}
+use Rattle.wire_v2.specs.Message.{MessageHead, plain_value, Message, join, event}
 use Rattle.doc_model.specs.Process.{World, Route, begin_state, page_text, Stepped, step_message}
-use Rattle.doc_model.specs.Journal.{spelled}
 use Rattle.doc_model.proofs.ExampleParts.{scope}
 
--- what a handler does: `["assign", NAME, E]`, and a stream's insert (with its dom id) and delete
+-- what a handler does: an assign, and a stream's insert (with the dom id), delete and reset
 pub data Step : Type 0 where
   assign_step : List ℕ → Expr → Step
   insert_step : List ℕ → List ℕ → Expr → ℤ → Option ℤ → Step
   delete_step : List ℕ → List ℕ → Step
+  reset_step : List ℕ → Step
 
 -- steps under the name of their event
 abbrev pub Events : Type 0
@@ -42,6 +42,7 @@ effects_of [] as' = Some []
 effects_of (assign_step n e ∷ ss) as' = where_ok (eval_expr (scope as') e) (λ v. before (assign_to n v) (effects_of ss (with_key n v as')))
 effects_of (insert_step s id e at limit ∷ ss) as' = where_ok (eval_expr (scope as') e) (λ v. before (stream_insert s id v at limit) (effects_of ss as'))
 effects_of (delete_step s id ∷ ss) as' = before (stream_delete s id) (effects_of ss as')
+effects_of (reset_step s ∷ ss) as' = before (stream_reset s) (effects_of ss as')
 
 -- an event without an entry raises
 abbrev pub event_effects : Events → List ℕ → Assigns → Option (List Effect)
@@ -99,7 +100,7 @@ event_after w s r name = event_to w s r 0 name
 
 -- the frames as they are sent
 abbrev pub frames_text : Stepped → List (List ℕ)
-frames_text s = spelled s.frames
+frames_text s = map (λ f. compact_text (frame_json f)) s.frames
 
 -- the trees and the diffs in frames, as JSON
 abbrev pub carried : List Frame → List (List ℕ)

@@ -1,5 +1,6 @@
 -- Worked examples: malformed and stale messages, from their bytes on.
-use Rattle.std.proofs.Common.{◌≡◌, ℕ, List, [], ◌∷◌, ◌++◌, Option, Some, None, codes, refl}
+use Rattle.std.proofs.Common.{◌≡◌, ℕ, List, [], ◌∷◌, ◌++◌, map, Option, Some, None, codes, refl}
+use Rattle.std.specs.Float.Numeral.{scan_numeral}
 use Rattle.std.specs.Fmt.{digits}
 use Rattle.json.specs.Json.{items, members, value}
 use Rattle.json.specs.Lex.{lex, punctuate}
@@ -9,7 +10,7 @@ use Rattle.json.specs.Print.{escape_byte}
 use Rattle.serde_json.specs.Read.{number_of}
 use Rattle.value_core.specs.Value.{map_of, no_assigns}
 use Rattle.doc_model.specs.Effects.{heard}
-use Rattle.doc_model.specs.Message.{MessageHead, plain_value, Message, event, message_of}
+use Rattle.doc_model.specs.Message.{plain_value, event, head_of, message_of}
 use Rattle.doc_model.specs.Process.{Stepped, unchanged, step_waiting}
 use Rattle.doc_model.proofs.ExamplesPages.{counting, start}
 use Rattle.doc_model.proofs.ExampleWorlds.{frames_text, client_page}
@@ -43,7 +44,65 @@ name_is_no_text = codes "[\"1\",\"2\",\"lv:A\",\"event\",{\"event\":5,\"type\":\
 abbrev no_component : List ℕ
 no_component = codes "[\"1\",\"2\",\"lv:A\",\"event\",{\"cid\":99,\"event\":\"inc\",\"type\":\"click\",\"value\":{}}]"
 
--- four are malformed
+-- four texts spell no message
 example_malformed_and_stale_no_json : message_of no_json ≡ None
-unfolding items members value lex punctuate content after_number word number_of
+unfolding items members value lex punctuate content after_number word number_of scan_numeral
 example_malformed_and_stale_no_json = refl
+
+example_malformed_and_stale_four_items : message_of four_items ≡ None
+unfolding items members value lex punctuate content after_number word number_of scan_numeral
+example_malformed_and_stale_four_items = refl
+
+example_malformed_and_stale_unknown_event : message_of unknown_event ≡ None
+unfolding items members value lex punctuate content after_number word number_of scan_numeral
+example_malformed_and_stale_unknown_event = refl
+
+example_malformed_and_stale_name_is_no_text : message_of name_is_no_text ≡ None
+unfolding items members value lex punctuate content after_number word number_of scan_numeral
+example_malformed_and_stale_name_is_no_text = refl
+
+-- one spells a message of another join
+example_malformed_and_stale_of_another_join : message_of of_another_join ≡ Some (event (head_of (Some (codes "0")) (Some (codes "2")) (codes "lv:A")) (codes "inc") (plain_value (map_of no_assigns)) 0)
+unfolding items members value lex punctuate content after_number word number_of scan_numeral
+example_malformed_and_stale_of_another_join = refl
+
+-- and one a message to a component that does not live
+example_malformed_and_stale_no_component : message_of no_component ≡ Some (event (head_of (Some (codes "1")) (Some (codes "2")) (codes "lv:A")) (codes "inc") (plain_value (map_of no_assigns)) 99)
+unfolding items members value lex punctuate content after_number word number_of scan_numeral
+example_malformed_and_stale_no_component = refl
+
+-- nothing changes, and the first five are not answered
+example_malformed_and_stale_no_json_step : hears no_json ≡ unchanged start.state [] []
+unfolding digits items members value lex punctuate content after_number word number_of scan_numeral
+example_malformed_and_stale_no_json_step = refl
+
+example_malformed_and_stale_four_items_step : hears four_items ≡ unchanged start.state [] []
+unfolding digits items members value lex punctuate content after_number word number_of scan_numeral
+example_malformed_and_stale_four_items_step = refl
+
+example_malformed_and_stale_unknown_event_step : hears unknown_event ≡ unchanged start.state [] []
+unfolding digits items members value lex punctuate content after_number word number_of scan_numeral
+example_malformed_and_stale_unknown_event_step = refl
+
+example_malformed_and_stale_of_another_join_step : hears of_another_join ≡ unchanged start.state [] []
+unfolding digits items members value lex punctuate content after_number word number_of scan_numeral
+example_malformed_and_stale_of_another_join_step = refl
+
+example_malformed_and_stale_name_is_no_text_step : hears name_is_no_text ≡ unchanged start.state [] []
+unfolding digits items members value lex punctuate content after_number word number_of scan_numeral
+example_malformed_and_stale_name_is_no_text_step = refl
+
+example_malformed_and_stale_no_component_state : (hears no_component).state ≡ start.state
+unfolding digits items members value lex punctuate content after_number word number_of scan_numeral
+example_malformed_and_stale_no_component_state = refl
+
+-- the last is answered by nothing
+example_malformed_and_stale_frames : frames_text (hears no_component) ≡ codes "[\"1\",\"2\",\"lv:A\",\"phx_reply\",{\"response\":{},\"status\":\"ok\"}]" ∷ []
+unfolding digits items members value lex punctuate content after_number word number_of scan_numeral escape_byte
+example_malformed_and_stale_frames = refl
+
+-- each leaves the page
+example_malformed_and_stale_pages : map page_after (no_json ∷ four_items ∷ unknown_event ∷ of_another_join ∷ name_is_no_text ∷ no_component ∷ [])
+    ≡ first_page ∷ first_page ∷ first_page ∷ first_page ∷ first_page ∷ first_page ∷ []
+unfolding digits items members value lex punctuate content after_number word number_of scan_numeral
+example_malformed_and_stale_pages = refl
