@@ -1,1 +1,5 @@
 pub mod Examples
+pub mod ExprReads
+pub mod Ordered
+pub mod PatternReads
+pub mod Walks

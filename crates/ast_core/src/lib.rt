@@ -6,6 +6,8 @@ mod linked;
 mod node;
 mod operators;
 mod pattern;
+mod walk;
+mod walk_expr;
 
 pub use expr::{Expr, Exprs, Operand, Pair, Pairs, Parts, PathStep, PipeCall, TextPart};
 pub use linked::{Bodies, Linked, Module, Modules, Template, Templates};
@@ -15,3 +17,4 @@ pub use node::{
 };
 pub use operators::{BinaryOp, Function, UnaryOp};
 pub use pattern::{Pattern, PatternPair, PatternPairs, Patterns};
+pub use walk::Reads;
