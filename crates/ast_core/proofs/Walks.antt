@@ -1,5 +1,5 @@
 -- What a walk meets in lists, and in the scope of variables.
-use Rattle.std.proofs.Common.{◌≡◌, ℕ, zero, suc, ◌+◌, ◌<◌, ◌≤◌, List, [], ◌∷◌, ◌++◌, length, get_or, take, drop, Bool, true, false, if◌then◌else◌, refl, sym, ap, ◌∙◌, arith, append_assoc, append-nil, Result, OnOk, subst}
+use Rattle.std.proofs.Common.{◌≡◌, ℕ, zero, suc, ◌+◌, ◌<◌, ◌≤◌, List, [], ◌∷◌, ◌++◌, length, get_or, take, drop, Bool, true, false, if◌then◌else◌, refl, sym, ap, ◌∙◌, arith, append_assoc, append-nil, length-append, Result, OnOk, subst}
 use Rattle.std.proofs.lemmas.List.{drop_all}
 use Rattle.std.specs.Str.{bytes_eq}
 use Rattle.text_core.proofs.Keyed.{cons_at}
@@ -96,3 +96,22 @@ scope xs (var v ∷ ns) w = by (one_of v w.bound) (one_of v xs) refl refl (λ u.
     by false true h k rest = rw (first_has_not v w.bound xs h, k) (rest w)
     by false false h k rest =
         rw (first_has_not v w.bound xs h, k) (rest (record w { variables = with_name v w.variables }) ∙ ap (met (without xs ns)) (sym (meet_free v w h)))
+
+stays : (ns : List Name) (w : Walk) → (met ns w).bound ≡ w.bound
+stays [] w = refl
+stays (at a ∷ ns) w = stays ns (meet (at a) w)
+stays (var v ∷ ns) w = by (one_of v w.bound) (λ u. stays ns u)
+  where
+    by : (b : Bool) → ((u : Walk) → (met ns u).bound ≡ u.bound) → (met ns (if b then w else record w { variables = with_name v w.variables })).bound ≡ w.bound
+    by true rest = rest w
+    by false rest = rest (record w { variables = with_name v w.variables })
+
+-- the variables of the scope outside are the first
+pub still_there : (xs : List (List ℕ)) (ns : List Name) (n : ℕ) (w v u : Walk) → n ≡ length w.bound → v ≡ inside xs w → u ≡ met ns v → n ≤ length u.bound
+still_there xs ns n w v u count into through =
+    let same : u.bound ≡ w.bound ++ xs = ap (λ (z : Walk). z.bound) through ∙ stays ns v ∙ ap (λ (z : Walk). z.bound) into in
+    rw same (omega (arith, length-append w.bound xs))
+
+pub left_scope : (xs : List (List ℕ)) (ns : List Name) (n : ℕ) (w v u z : Walk) → n ≡ length w.bound → v ≡ inside xs w → u ≡ met ns v → z ≡ outside n u → z ≡ met (without xs ns) w
+left_scope xs ns n w v u z count into through out =
+    out ∙ ap (λ m. outside m u) count ∙ ap (outside (length w.bound)) (through ∙ ap (met ns) into) ∙ scope xs ns w
