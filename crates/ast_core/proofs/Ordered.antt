@@ -10,7 +10,7 @@ use Rattle.ast_core.specs.declared.walk.Walk.{Walk}
 use Rattle.ast_core.specs.Syntax.{Name, at, var}
 use Rattle.ast_core.specs.Reads.{with_name, assigns_in, variables_in}
 use Rattle.ast_core.specs.Free.{one_of}
-use Rattle.ast_core.specs.Walk.{meet, met}
+use Rattle.ast_core.specs.Walk.{start, meet, met}
 
 -- the first n names are below k
 abbrev pub Passed : List ℕ → List (List ℕ) → ℕ → Type 0
@@ -114,10 +114,7 @@ assigns_aside (var v ∷ ns) w as' = by (one_of v w.bound) (λ u. assigns_aside 
     by true rest = rest w
     by false rest = rest (with_variable v w)
 
--- a walk from nothing has met the names, in byte order
-abbrev pub start : Walk
-start = record { bound = []; assigns = []; variables = [] }
-
+-- a walk from its beginning has met the names, in byte order
 pub assigns_met : (ns : List Name) → (met ns start).assigns ≡ assigns_in ns
 assigns_met [] = refl
 assigns_met (at a ∷ ns) = assign_first a ns start ∙ ap (with_name a) (assigns_met ns)

@@ -5,6 +5,10 @@ use Rattle.ast_core.specs.Syntax.{Name, at, var}
 use Rattle.ast_core.specs.Free.{one_of}
 use Rattle.ast_core.specs.Reads.{with_name}
 
+-- a walk at its beginning
+abbrev pub start : Walk
+start = record { bound = []; assigns = []; variables = [] }
+
 -- a walk that met one more name: an assign, or a variable that is not bound there
 abbrev pub meet : Name → Walk → Walk
 meet (at a) w = record w { assigns = with_name a w.assigns }

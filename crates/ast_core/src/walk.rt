@@ -4,7 +4,7 @@ ghost use Rattle.ast_core.specs.Free.{one_of, bound};
 ghost use Rattle.ast_core.specs.Syntax.{at, var};
 ghost use Rattle.ast_core.specs.Reads.{with_name};
 ghost use Rattle.ast_core.specs.NamesIn.{bound_by, all_bound, bound_by_key};
-ghost use Rattle.ast_core.specs.Walk.{meet, inside, outside};
+ghost use Rattle.ast_core.specs.Walk.{start, meet, inside, outside};
 
 use crate::{Pattern, PatternPairs, Patterns};
 use std::alloc::Global;
@@ -64,9 +64,7 @@ fn add(alloc: Global, name: &Text, names: &mut Names) -> Result<(), OutOfMemory>
 
 impl Walk {
     pub fn new(alloc: Global) -> Walk
-        ensures bound { result.bound ≡ [] }
-        ensures assigns { result.assigns ≡ [] }
-        ensures variables { result.variables ≡ [] }
+        ensures { result ≡ start }
     {
         Walk {
             bound: Names::new(alloc),
