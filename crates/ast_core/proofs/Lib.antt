@@ -1,1 +1,6 @@
 pub mod Examples
+pub mod ExprReads
+pub mod NodeReads
+pub mod Ordered
+pub mod PatternReads
+pub mod Walks

@@ -6,6 +6,10 @@ mod linked;
 mod node;
 mod operators;
 mod pattern;
+mod reading;
+mod walk;
+mod walk_expr;
+mod walk_node;
 
 pub use expr::{Expr, Exprs, Operand, Pair, Pairs, Parts, PathStep, PipeCall, TextPart};
 pub use linked::{Bodies, Linked, Module, Modules, Template, Templates};
@@ -15,3 +19,5 @@ pub use node::{
 };
 pub use operators::{BinaryOp, Function, UnaryOp};
 pub use pattern::{Pattern, PatternPair, PatternPairs, Patterns};
+pub use reading::reads;
+pub use walk::Reads;
