@@ -7,8 +7,10 @@ use Rattle.ast_core.specs.declared.operators.BinaryOp.TheVariants.{Plus}
 use Rattle.ast_core.specs.Syntax.{Expr, binary, field, named, no_attributes, written, double_quoted, valued, put, stream_place, Nodes, no_nodes}
 use Rattle.doc_model.specs.Environment.{Env}
 use Rattle.doc_model.specs.Evaluation.{eval_expr}
-use Rattle.doc_model.specs.Effects.{Effect, assign_to, stream_insert, subscribe, publish, mailed, ViewMeaning}
-use Rattle.doc_model.specs.Message.{head_of, form_text, join, event}
+use Rattle.view_api.specs.Effect.{Effect, assign_to, stream_insert, subscribe, publish}
+use Rattle.view_api.specs.Meaning.{ViewMeaning}
+use Rattle.doc_model.specs.Effects.{mailed}
+use Rattle.wire_v2.specs.Message.{head_of, form_text, join, event}
 use Rattle.doc_model.specs.Process.{World, Stepped, begin_state, step_message, step_waiting}
 use Rattle.doc_model.proofs.ExampleParts.{tag, place, words, one, all_nodes, put_assign, int, assigned, variable, map_expr, scope}
 use Rattle.doc_model.proofs.ExampleWorlds.{where_ok, scripted, world_of, home_alone}

@@ -7,7 +7,7 @@ use Rattle.json.specs.Text.{content}
 use Rattle.json.specs.Word.{after_number, word}
 use Rattle.serde_json.specs.Read.{number_of}
 use Rattle.value_core.specs.Value.{map_of, no_assigns}
-use Rattle.doc_model.specs.Message.{plain_value, beat, join, leave, event, head_of, message_of}
+use Rattle.wire_v2.specs.Message.{plain_value, beat, join, leave, event, head_of, message_of}
 use Rattle.doc_model.proofs.ExampleWorlds.{head}
 
 abbrev pub join_bytes : List ℕ

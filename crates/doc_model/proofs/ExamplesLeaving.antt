@@ -2,7 +2,7 @@
 use Rattle.std.proofs.Common.{◌≡◌, [], ◌∷◌, ◌++◌, Some, None, codes, refl}
 use Rattle.std.specs.Fmt.{digits}
 use Rattle.json.specs.Print.{escape_byte}
-use Rattle.doc_model.specs.Message.{beat, leave}
+use Rattle.wire_v2.specs.Message.{beat, leave}
 use Rattle.doc_model.specs.Process.{Stepped, step_message}
 use Rattle.doc_model.proofs.ExamplesPages.{counting, start}
 use Rattle.doc_model.proofs.ExampleWorlds.{frames_text, client_page}

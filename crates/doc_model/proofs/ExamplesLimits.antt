@@ -17,7 +17,7 @@ use Rattle.diff_tree.specs.Frame.{Frame, push}
 use Rattle.doc_model.specs.Bundle.{site_of}
 use Rattle.doc_model.specs.Effects.{heard}
 use Rattle.doc_model.specs.FullRendering.{full_render}
-use Rattle.doc_model.specs.Message.{message_of}
+use Rattle.wire_v2.specs.Message.{message_of}
 use Rattle.doc_model.specs.Process.{World, frame_of, step_waiting}
 use Rattle.doc_model.proofs.ExampleParts.{tag, place, words, one, all_nodes, put_assign, quote, int, scope}
 use Rattle.doc_model.proofs.ExamplesPages.{counting, start}

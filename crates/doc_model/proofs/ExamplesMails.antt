@@ -11,7 +11,9 @@ use Rattle.json.specs.Print.{escape_byte}
 use Rattle.serde_json.specs.Read.{number_of}
 use Rattle.value_core.specs.Value.{Value, whole_number, atom, map_of, no_assigns, assign}
 use Rattle.ast_core.specs.Syntax.{no_attributes}
-use Rattle.doc_model.specs.Effects.{Effect, assign_to, subscribe, publish, send_self, push_event, to_subscribe, to_publish, mailed, sent, ViewMeaning}
+use Rattle.view_api.specs.Effect.{Effect, assign_to, subscribe, publish, send_self, push_event}
+use Rattle.view_api.specs.Meaning.{ViewMeaning}
+use Rattle.doc_model.specs.Effects.{to_subscribe, to_publish, mailed, sent}
 use Rattle.doc_model.specs.Process.{World, Stepped, unchanged, step_waiting, handled_front}
 use Rattle.doc_model.proofs.ExampleParts.{tag, one, put_assign}
 use Rattle.doc_model.proofs.ExampleWorlds.{scripted, world_of, home_alone, joined, event_after, frames_text, client_page}

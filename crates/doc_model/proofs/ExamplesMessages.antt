@@ -10,7 +10,7 @@ use Rattle.json.specs.Print.{escape_byte}
 use Rattle.serde_json.specs.Read.{number_of}
 use Rattle.value_core.specs.Value.{map_of, no_assigns}
 use Rattle.doc_model.specs.Effects.{heard}
-use Rattle.doc_model.specs.Message.{plain_value, event, head_of, message_of}
+use Rattle.wire_v2.specs.Message.{plain_value, event, head_of, message_of}
 use Rattle.doc_model.specs.Process.{Stepped, unchanged, step_waiting}
 use Rattle.doc_model.proofs.ExamplesPages.{counting, start}
 use Rattle.doc_model.proofs.ExampleWorlds.{frames_text, client_page}

@@ -4,7 +4,7 @@ use Rattle.std.specs.Fmt.{digits}
 use Rattle.json.specs.Print.{escape_byte}
 use Rattle.ast_core.specs.declared.operators.BinaryOp.TheVariants.{Plus, Minus}
 use Rattle.ast_core.specs.Syntax.{Expr, binary, no_attributes, no_nodes}
-use Rattle.doc_model.specs.Message.{join}
+use Rattle.wire_v2.specs.Message.{join}
 use Rattle.doc_model.specs.Process.{World, Stepped, begin_state, step_message}
 use Rattle.doc_model.proofs.ExampleParts.{tag, one, put_assign, int, assigned}
 use Rattle.doc_model.proofs.ExampleWorlds.{Step, assign_step, page_alone, head, joined, event_after, frames_text, carried_text, client_page, full_page}

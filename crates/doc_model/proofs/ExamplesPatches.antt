@@ -5,8 +5,9 @@ use Rattle.std.specs.Str.{bytes_eq}
 use Rattle.json.specs.Print.{escape_byte}
 use Rattle.value_core.specs.Value.{text}
 use Rattle.ast_core.specs.Syntax.{no_attributes}
-use Rattle.doc_model.specs.Effects.{assign_to, ViewMeaning}
-use Rattle.doc_model.specs.Message.{Message, patch, will_destroy, destroyed, join, head_of}
+use Rattle.view_api.specs.Effect.{assign_to}
+use Rattle.view_api.specs.Meaning.{ViewMeaning}
+use Rattle.wire_v2.specs.Message.{Message, patch, will_destroy, destroyed, join, head_of}
 use Rattle.doc_model.specs.Process.{World, Stepped, step_message}
 use Rattle.doc_model.proofs.ExampleParts.{tag, one, all_nodes, put_assign}
 use Rattle.doc_model.proofs.ExampleWorlds.{scripted, world_of, home_alone, head, joined, frames_text, client_page}

@@ -10,7 +10,9 @@ use Rattle.doc_model.specs.Environment.{Stream}
 use Rattle.doc_model.specs.Evaluation.{Res, then_do, on_res, or_raise}
 use Rattle.doc_model.specs.Walk.{Owner, Views}
 use Rattle.doc_model.specs.Table.{Honest}
-use Rattle.doc_model.specs.Effects.{Effect, assign_to, stream_insert, stream_delete, stream_reset, subscribe, unsubscribe, publish, send_self, push_event, sent, Action, to_publish, Rest, Applied, storable, sendable, position_of, limit_of, batch_insert, batch_delete, batch_reset, with_batch, in_stream, acting, send_value, is_kept_name, assigned, insert_of, apply_effect, apply_effects, ViewMeaning, applied_or_raise, new_owner, updated_component, views_of}
+use Rattle.view_api.specs.Effect.{Effect, assign_to, stream_insert, stream_delete, stream_reset, subscribe, unsubscribe, publish, send_self, push_event}
+use Rattle.view_api.specs.Meaning.{ViewMeaning}
+use Rattle.doc_model.specs.Effects.{sent, Action, to_publish, Rest, Applied, storable, sendable, position_of, limit_of, batch_insert, batch_delete, batch_reset, with_batch, in_stream, acting, send_value, is_kept_name, assigned, insert_of, apply_effect, apply_effects, applied_or_raise, new_owner, updated_component, views_of}
 use Rattle.doc_model.proofs.Results.{On, on_made, on_bind, on_all, on_then, on_weaker}
 
 -- each stream shows what it showed

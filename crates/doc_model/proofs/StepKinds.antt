@@ -11,8 +11,10 @@ use Rattle.doc_model.specs.Environment.{Component}
 use Rattle.doc_model.specs.Evaluation.{Res, then_do, on_res}
 use Rattle.doc_model.specs.Components.{whole_tree, lean_diff}
 use Rattle.doc_model.specs.Walk.{Owner, owner_of, component_with}
-use Rattle.doc_model.specs.Effects.{Effect, Waiting, heard, mailed, sent, Rest, Applied, applied_or_raise, empty_stream, of_view, of_module}
-use Rattle.doc_model.specs.Message.{MessageHead, Message, beat, join, leave, event, patch, will_destroy, destroyed, message_of}
+use Rattle.view_api.specs.Effect.{Effect}
+use Rattle.view_api.specs.Meaning.{of_view, of_module}
+use Rattle.doc_model.specs.Effects.{Waiting, heard, mailed, sent, Rest, Applied, applied_or_raise, empty_stream}
+use Rattle.wire_v2.specs.Message.{MessageHead, Message, beat, join, leave, event, patch, will_destroy, destroyed, message_of}
 use Rattle.doc_model.specs.Process.{World, Route, Page, ProcessState, Turning, Outcome, Stepped, rendered_page, turning_view, joined_page, view_turn, component_at, with_owner, component_turn, frame_of, reply_to, rest_of, no_difference, diff_body, push_frames, reply_diff, after_turn, after_join, step_join, step_component, step_event, step_patch, is_of, if_fresh, step_message, step_heard, step_info, if_present, mail_value, step_waiting, handled_front, value_of, no_route}
 use Rattle.doc_model.specs.Journal.{DownReason, Entry, text_heard, mail_heard, handled, fell, overrun, Standing, process_step, fault_frames, down_reason}
 use Rattle.doc_model.proofs.Results.{On, on_eq}
