@@ -4,3 +4,4 @@ pub mod Client
 pub mod Mark
 pub mod Spelling
 pub mod Frame
+pub mod Laws
