@@ -14,7 +14,7 @@ use Rattle.doc_model.specs.Trace.{Items, item, no_items, Item}
 use Rattle.doc_model.specs.Tracing.{trace, trace_place, trace_places}
 use Rattle.diff_render.specs.Met.{Meets, item_of, items_of}
 
-one_place : (site : Site) (go : Deeper Items) (env : Env) (n : List ℕ) → trace_place site go env (put_assign n) ≡ item_of env.assigns n
+pub one_place : (site : Site) (go : Deeper Items) (env : Env) (n : List ℕ) → trace_place site go env (put_assign n) ≡ item_of env.assigns n
 one_place site go env n = by (lookup n env.assigns) refl
   where
     by : (o : Option Value) → lookup n env.assigns ≡ o → trace_place site go env (put_assign n) ≡ item_of env.assigns n

@@ -11,7 +11,7 @@ use Rattle.diff_tree.specs.Frame.{Frame, FrameBody, rendered, changed, push, fra
 use Rattle.doc_model.specs.Environment.{with_key}
 use Rattle.doc_model.specs.Evaluation.{Res, eval_expr}
 use Rattle.doc_model.specs.Bundle.{site_of}
-use Rattle.view_api.specs.Effect.{Effect, assign_to, stream_insert, stream_delete}
+use Rattle.view_api.specs.Effect.{Effect, assign_to, stream_insert, stream_delete, stream_reset}
 use Rattle.view_api.specs.Meaning.{Handler, of_view, of_module, ViewMeaning}
 use Rattle.wire_v2.specs.Message.{MessageHead, plain_value, Message, join, event}
 use Rattle.doc_model.specs.Process.{World, Route, begin_state, page_text, Stepped, step_message}

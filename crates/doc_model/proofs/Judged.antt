@@ -5,6 +5,7 @@ use Rattle.ast_core.specs.Syntax.{Nodes}
 use Rattle.ast_core.specs.Places.{cut}
 use Rattle.diff_tree.specs.Tree.{Tree, Change, opened, opened_all}
 use Rattle.diff_tree.specs.Client.{PageTree, among, numbers_in, closed, reached, only_among, dropped, judged, with_number, with_numbers, merge_parts, merge_diff, opened_tree, and_then}
+use Rattle.diff_tree.proofs.Closed.{none_closed, closed_append}
 use Rattle.doc_model.specs.Environment.{Env}
 use Rattle.doc_model.specs.Trace.{Items}
 use Rattle.doc_model.specs.Whole.{whole_places}
@@ -17,7 +18,7 @@ use Rattle.doc_model.proofs.Sames.{both_true}
 use Rattle.doc_model.proofs.Wholes.{Good}
 use Rattle.doc_model.proofs.Merges.{opened_holds}
 use Rattle.doc_model.proofs.Origins.{all_weaker, all_both}
-use Rattle.doc_model.proofs.Closed.{met, none_closed, node_numbers, closed_append, closed_upto, HeldAt, held_at, Stands, met_closed, parts_closed}
+use Rattle.doc_model.proofs.Closed.{met, node_numbers, HeldAt, held_at, Stands, met_closed, parts_closed}
 use Rattle.doc_model.proofs.Reached.{There, parts_reached, known, at_number, reached_known, among_all, only_known}
 use Rattle.doc_model.proofs.Pages.{all_found, good_of, goods, Parts, lean_parts_merge}
 

@@ -1,5 +1,5 @@
 -- The laws of whole trees and lean diffs.
-use Rattle.std.specs.Prelude.{◌≡◌, ℕ, ◌+◌, ◌≤◌, List, Option, Some, None, Ok}
+use Rattle.std.specs.Prelude.{◌≡◌, ℕ, ◌+◌, ◌≤◌, Option, Some, None, Ok}
 use Rattle.doc_model.specs.Environment.{Env}
 use Rattle.doc_model.specs.Evaluation.{on_res}
 use Rattle.ast_core.specs.Syntax.{Nodes}
@@ -10,8 +10,7 @@ use Rattle.doc_model.specs.FullRendering.{full_render}
 use Rattle.doc_model.specs.Tracing.{trace}
 use Rattle.ast_core.specs.Places.{cut}
 use Rattle.diff_tree.specs.Tree.{weave}
-use Rattle.diff_tree.specs.Frame.{Frame, client_takes_all}
-use Rattle.diff_tree.specs.Client.{PageTree, PageDiff, show_tree, merge_diff, judged, opened_tree}
+use Rattle.diff_tree.specs.Client.{PageTree, show_tree, merge_diff, judged, opened_tree}
 use Rattle.doc_model.specs.Components.{HeldTree, Distinct, AllOf, parts, depth, whole_tree, lean_diff, Follows}
 
 -- something is given, and the fact holds of it
@@ -47,12 +46,3 @@ abbrev pub TakenWhole : Type 0
 TakenWhole = (site : Site) (k : ℕ) (env : Env) (ns : Nodes) (is : Items) → trace site k env ns ≡ Ok is → Distinct (parts is)
     → Fresh is → AllOf (λ p. Fresh p.items) (parts is) → (n : ℕ) → depth is ≤ n
     → Gives (HeldTree site.mark (cut ns) is) (judged n (opened_tree (whole_tree (cut ns) is)))
-
--- a merge that is defined with some number of levels gives the same tree with more, and no other with fewer
-abbrev pub MergeIgnoresLevels : Type 0
-MergeIgnoresLevels = (k l : ℕ) (p q : PageTree) (d : PageDiff) → merge_diff k p d ≡ Some q
-    → (k ≤ l → merge_diff l p d ≡ Some q) × ((r : PageTree) → merge_diff l p d ≡ Some r → r ≡ q)
-
--- what a client makes of frames is the same with more levels
-abbrev pub ClientIgnoresLevels : Type 0
-ClientIgnoresLevels = (k l : ℕ) (h h' : Option PageTree) (fs : List Frame) → k ≤ l → client_takes_all k h fs ≡ Some h' → client_takes_all l h fs ≡ Some h'

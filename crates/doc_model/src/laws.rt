@@ -2,7 +2,7 @@
 
 ghost use Rattle.doc_model.specs.Effects.{Rest};
 ghost use Rattle.doc_model.specs.Headline.{BundleLinks, JournalIsLean, JournalShows, LawfulHolds, SessionGoesOn};
-ghost use Rattle.doc_model.specs.Laws.{ClientIgnoresLevels, HeldTreeShows, MergeIgnoresLevels, MergeLeanWhole, StaticsWeave, TakenWhole, WholeTreeShows};
+ghost use Rattle.doc_model.specs.Laws.{HeldTreeShows, MergeLeanWhole, StaticsWeave, TakenWhole, WholeTreeShows};
 ghost use Rattle.doc_model.specs.Mark.{MarkIsAtRoot};
 ghost use Rattle.doc_model.specs.Run.{SessionShows, SettledShows};
 ghost use Rattle.doc_model.specs.Session.{FramesShow};
@@ -96,19 +96,7 @@ pub fn session_goes_on()
 {}
 
 /// The constant text of nodes, woven with what their places show, is the full rendering.
-#[tactic(auto, using(crate::proofs::Levels::statics_weave))]
+#[tactic(auto, using(crate::proofs::Shows::statics_weave))]
 pub fn statics_weave()
     ensures { StaticsWeave }
-{}
-
-/// What a merge gives does not depend on the number of levels, where it is enough.
-#[tactic(auto, using(crate::proofs::Levels::merge_ignores_levels))]
-pub fn merge_ignores_levels()
-    ensures { MergeIgnoresLevels }
-{}
-
-/// What a client makes of frames does not depend on the number of levels, where it is enough.
-#[tactic(auto, using(crate::proofs::Levels::client_ignores_levels))]
-pub fn client_ignores_levels()
-    ensures { ClientIgnoresLevels }
 {}

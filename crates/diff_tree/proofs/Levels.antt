@@ -5,32 +5,9 @@ use Rattle.diff_tree.specs.Container.{is_none}
 use Rattle.diff_tree.specs.Client.{PageTree, PageDiff, among, numbers_in, all_found, closed, inside, reached, only_among, dropped, judged, merge_parts, merge_diff, and_then, opened_tree}
 use Rattle.diff_tree.specs.Frame as fr
 use Rattle.diff_tree.specs.Frame.{Frame, FrameBody, held_diff, client_takes, client_takes_all}
-use Rattle.doc_model.specs.Laws.{StaticsWeave, MergeIgnoresLevels, ClientIgnoresLevels}
-use Rattle.doc_model.proofs.Sames.{both_true}
-use Rattle.doc_model.proofs.Shows.{trace_shown}
-use Rattle.doc_model.proofs.Closed.{none_closed, closed_append, closed_upto}
-
-pub statics_weave : StaticsWeave
-statics_weave site k env ns = trace_shown site k env ns
-
-reached_none : (k : ℕ) (f : ℕ → Option Tree) → reached k f [] ≡ []
-reached_none zero f = refl
-reached_none (suc k) f = reached_none k f
-
-inside_closed : (k : ℕ) (f : ℕ → Option Tree) (ns : List ℕ) → all_found (λ t. closed k f (numbers_in t)) f ns ≡ true → closed k f (inside f ns) ≡ true
-inside_closed k f [] h = none_closed k f
-inside_closed k f (n ∷ ns) h = by_tree (f n) h (inside_closed k f ns)
-  where
-    by_tree : (o : Option Tree) → (elim o [ None ↦ false | Some t ↦ closed k f (numbers_in t) ] && all_found (λ t. closed k f (numbers_in t)) f ns) ≡ true → (all_found (λ t. closed k f (numbers_in t)) f ns ≡ true → closed k f (inside f ns) ≡ true)
-        → closed k f (elim o [ None ↦ [] | Some t ↦ numbers_in t ] ++ inside f ns) ≡ true
-    by_tree None e r = absurd (true≢false (sym e))
-    by_tree (Some t) e r = let b = both_true (closed k f (numbers_in t)) (all_found (λ t. closed k f (numbers_in t)) f ns) e in closed_append k f (numbers_in t) (inside f ns) b.0 (r b.1)
-
-reached_same : (k l : ℕ) (f : ℕ → Option Tree) (ns : List ℕ) → k ≤ l → closed k f ns ≡ true → reached l f ns ≡ reached k f ns
-reached_same zero l f [] h c = reached_none l f
-reached_same zero l f (n ∷ ns) h c = absurd (true≢false (sym c))
-reached_same (suc k) zero f ns h c = absurd (omega arith)
-reached_same (suc k) (suc l) f ns h c = ap (λ ms. ns ++ ms) (reached_same k l f (inside f ns) (omega arith) (inside_closed k f ns c))
+use Rattle.diff_tree.specs.Laws.{MergeIgnoresLevels, ClientIgnoresLevels}
+use Rattle.diff_tree.proofs.Among.{both_true}
+use Rattle.diff_tree.proofs.Closed.{closed_upto, reached_same}
 
 abbrev only : PageTree → List ℕ → PageTree
 only p live = record { root = p.root; numbers = only_among live p.numbers; component = λ n. if among n live then p.component n else None }

@@ -1,0 +1,5 @@
+pub mod Among
+pub mod Closed
+pub mod Levels
+pub mod Batches
+pub mod Looks
