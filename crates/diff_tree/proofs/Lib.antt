@@ -1,0 +1,4 @@
+mod Order
+mod Statics
+mod Stored
+mod ReadsBack
