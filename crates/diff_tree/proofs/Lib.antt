@@ -2,3 +2,5 @@ mod Order
 mod Statics
 mod Stored
 mod ReadsBack
+mod Written
+mod Taken

@@ -1,15 +1,15 @@
 //! Diffs written as JSON.
-ghost use Rattle.std.specs.Prelude.{◌≡◌, IfOk};
+ghost use Rattle.std.specs.Prelude.{◌≡◌, IfOk, OnOk};
 ghost use Rattle.serde_json.specs.Data.{string};
 ghost use Rattle.serde_json.specs.View.{view, items_view, members_view};
 ghost use Rattle.serde_json.specs.Written.{compact_text};
 ghost use Rattle.diff_tree.specs.Spelling.{texts_json};
-ghost use Rattle.diff_tree.specs.Parts.{part_data, place_data, diff_data, places_json, seen};
+ghost use Rattle.diff_tree.specs.Parts.{part_data, place_data, diff_data, places_json, seen, with_statics};
 
 use crate::{Diff, Part, PlaceValue};
 use serde_json::{Map, Value, put};
 use std::alloc::Global;
-use text_core::{ByKey, OutOfMemory, Text};
+use text_core::{ByKey, Names, OutOfMemory, Text};
 
 /// The text of a diff: compact JSON (RFC 8259) with the keys of objects in byte order.
 pub fn write_diff(alloc: Global, diff: &Diff) -> Result<Text, OutOfMemory>
@@ -31,10 +31,7 @@ fn part_value(alloc: Global, part: &Part) -> Result<Value, OutOfMemory>
     ensures { IfOk result (λ v. view v ≡ part_data part.now) }
 {
     let mut members = places_value(alloc, &part.places)?;
-    if let Some(statics) = &part.statics {
-        let texts = texts_value(alloc, statics.as_slice())?;
-        put(&mut members, alloc, "s", Value::Array(texts))?;
-    }
+    add_statics(alloc, &mut members, &part.statics)?;
     Ok(Value::Object(members))
 }
 
@@ -61,6 +58,22 @@ fn places_value(
         put(&mut members, alloc, entry.key.as_str(), value)?;
     }
     Ok(members)
+}
+
+// Statics, where there are any, go under `s`.
+fn add_statics(
+    alloc: Global,
+    members: &mut Map<String, Value>,
+    statics: &Option<Names>,
+) -> Result<(), OutOfMemory>
+    ensures { OnOk result (members_view members.new.entries ≡ with_statics statics.now (members_view members.old.entries)) }
+{
+    let Some(statics) = statics else {
+        return Ok(());
+    };
+    let texts = texts_value(alloc, statics.as_slice())?;
+    put(members, alloc, "s", Value::Array(texts))?;
+    Ok(())
 }
 
 fn text_value(alloc: Global, text: &Text) -> Result<Value, OutOfMemory>
