@@ -3,3 +3,10 @@ pub mod Closed
 pub mod Levels
 pub mod Batches
 pub mod Looks
+mod Order
+mod Statics
+mod Stored
+mod ReadsBack
+mod Written
+mod Taken
+mod Spelled

@@ -6,3 +6,4 @@ pub mod Spelling
 pub mod Frame
 pub mod Parts
 pub mod Laws
+pub mod Grammar

@@ -1,5 +1,6 @@
 //! What the definitions keep: each law is the promise of a function that does nothing.
 
+ghost use Rattle.diff_tree.specs.Grammar.{SpellOne};
 ghost use Rattle.diff_tree.specs.Laws.{BatchKeepsApart, ClientIgnoresLevels, InsertsComeLast, MergeHoldsReached, MergeIgnoresLevels, ShowIgnoresLevels};
 
 /// A batch never puts an id twice into a container.
@@ -35,4 +36,9 @@ pub fn client_ignores_levels()
 #[tactic(auto, using(crate::proofs::Looks::show_ignores_levels))]
 pub fn show_ignores_levels()
     ensures { ShowIgnoresLevels }
+{}
+
+/// A text spells at most one diff that nests at most 127 deep, seen as its JSON value.
+pub fn text_spells_one_diff()
+    ensures { SpellOne }
 {}
