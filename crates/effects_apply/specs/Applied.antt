@@ -6,13 +6,14 @@ use Rattle.serde_json.specs.declared.value.Value as json
 use Rattle.text_core.specs.declared.by_key.KeyValue.{KeyValue}
 use Rattle.value_core.specs.View.{view, assigns_view}
 use Rattle.value_core.specs.declared.value.Value.{Value}
+use Rattle.view_api.specs.Effect.{Effect}
 use Rattle.machine_api.specs.declared.machine.Action as asked
 use Rattle.machine_api.specs.declared.machine.Action.TheVariants.{Subscribe, Unsubscribe, Publish}
 use Rattle.diff_tree.specs.Spelling.{Pushed}
 use Rattle.doc_model.specs.Environment.{Stream}
 use Rattle.doc_model.specs.Evaluation.{Res}
 use Rattle.doc_model.specs.Effects as model
-use Rattle.doc_model.specs.Effects.{Action, to_subscribe, to_unsubscribe, to_publish, Waiting, sent, inbox_limit, Applied}
+use Rattle.doc_model.specs.Effects.{Action, to_subscribe, to_unsubscribe, to_publish, Waiting, sent, inbox_limit, Applied, apply_effect}
 use Rattle.effects_apply.specs.declared.fault.EffectFault.{EffectFault}
 use Rattle.effects_apply.specs.declared.fault.EffectFault.TheVariants.{Raised, OutOfMemory}
 use Rattle.effects_apply.specs.declared.rest.Push.{Push}
@@ -56,6 +57,10 @@ Becomes (Err OutOfMemory) given present w r = Unit {0}
 abbrev pub Does : Result (Unit {0}) EffectFault → (Applied → Res Applied) → List (KeyValue Value) → Rest → List (KeyValue Value) → Rest → Type 0
 Does result step before old after new =
     (streams : List ℕ → Stream) (w : List Waiting) → CountsFree w old → Becomes result (step (applied_view before streams w old)) after w new
+
+-- an effect is done that leaves the assigns as they are, whatever they are
+abbrev pub DoesBeside : Result (Unit {0}) EffectFault → Effect → Rest → Rest → Type 0
+DoesBeside result e old new = (present : List (KeyValue Value)) → Does result (apply_effect e) present old present new
 
 -- the JSON value that is given, or a raise; want of memory is free
 abbrev pub GivesJson : Result json.Value EffectFault → Res Data → Type 0
