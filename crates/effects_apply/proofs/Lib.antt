@@ -1,2 +1,3 @@
 mod Floats
 mod Steps
+mod Orders

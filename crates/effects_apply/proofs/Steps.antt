@@ -15,6 +15,7 @@ use Rattle.value_core.specs.View.{view, assigns_view}
 use Rattle.value_core.specs.declared.value.Value.{Value}
 use Rattle.value_core.specs.declared.raise.Raise.TheVariants.{BadArgument, Deep, InboxFull}
 use Rattle.machine_api.specs.declared.machine.Action as asked
+use Rattle.diff_tree.specs.Container.{Position, Limit}
 use Rattle.view_api.specs.Effect.{assign_to, stream_insert, send_self, push_event, publish}
 use Rattle.doc_model.specs.Environment as scope
 use Rattle.doc_model.specs.Environment.{Stream}
@@ -71,23 +72,27 @@ module _ (present : List (KeyValue Value)) (streams : List ℕ → Stream) (w : 
   pub assigns : (k : List ℕ) (v : Value) (after : List (KeyValue Value)) → after ≡ with_key k v present → is_kept_name k ≡ false → is_ok (storable (view v)) ≡ true
       → Becomes (Ok tt) (apply_effect (assign_to k (view v)) before) after w r
   assigns k v after is free fits =
-      (h, streams, rw (free, stored (view v) fits) (ap (λ as'. Ok (record { assigns = as'; streams = streams }, rest_view w r)) (sym (ap assigns_view is ∙ seen_with k v present))))
+      (h, (streams, rw (free, stored (view v) fits) (ap (λ as'. Ok (record { assigns = as'; streams = streams }, rest_view w r)) (sym (ap assigns_view is ∙ seen_with k v present)))))
+
+  inserts_at : (s id : List ℕ) (v : model.Value) (at : ℤ) (limit : Option ℤ) (q : Position) (l : Limit) → storable v ≡ Ok v → position_of at ≡ Ok q → limit_of limit ≡ Ok l
+      → Becomes (Ok tt) (apply_effect (stream_insert s id v at limit) before) present w r
+  inserts_at s id v at limit q l fits placed limited = (h, ((in_stream s (batch_insert (insert_of id v q l)) before.0).streams, rw (fits, placed, limited) refl))
 
   pub inserts : (s id : List ℕ) (v : model.Value) (at : ℤ) (limit : Option ℤ) → is_ok (storable v) ≡ true → is_ok (position_of at) ≡ true → is_ok (limit_of limit) ≡ true
       → Becomes (Ok tt) (apply_effect (stream_insert s id v at limit) before) present w r
   inserts s id v at limit fits placed limited =
       let q = of_ok (position_of at) placed in
       let l = of_ok (limit_of limit) limited in
-      (h, (in_stream s (batch_insert (insert_of id v q.0 l.0)) before.0).streams, rw (stored v fits, q.1, l.1) refl)
+      inserts_at s id v at limit q.0 l.0 (stored v fits) q.1 l.1
 
   pub acts : (a : asked.Action) (later : List asked.Action) → later ≡ r.actions ++ a ∷ []
       → Becomes (Ok tt) (Ok (acting (action_view a) before)) present w (record r { actions = later })
-  acts a later is = (h, streams, ap (λ as'. Ok (before.0, record before.1 { actions = as' })) (sym (ap (map action_view) is ∙ map-append action_view r.actions (a ∷ []))))
+  acts a later is = (h, (streams, ap (λ as'. Ok (before.0, record before.1 { actions = as' })) (sym (ap (map action_view) is ∙ map-append action_view r.actions (a ∷ [])))))
 
   pub pushes : (p : Push) (v : model.Value) (later : List Push) → sendable v ≡ Ok (json_view p.payload) → later ≡ r.pushed ++ p ∷ []
       → Becomes (Ok tt) (apply_effect (push_event p.name v) before) present w (record r { pushed = later })
   pushes p v later fits is =
-      (h, streams, rw fits (ap (λ ps. Ok (before.0, record before.1 { pushed = ps })) (sym (ap (map push_view) is ∙ map-append push_view r.pushed (p ∷ [])))))
+      (h, (streams, rw fits (ap (λ ps. Ok (before.0, record before.1 { pushed = ps })) (sym (ap (map push_view) is ∙ map-append push_view r.pushed (p ∷ []))))))
 
   pub sends : (v : Value) (d : Data) (later : List Value) (free : ℕ) → sendable (view v) ≡ Ok d → later ≡ r.sent ++ v ∷ [] → free + 1 ≡ r.free
       → Becomes (Ok tt) (apply_effect (send_self (view v)) before) present w (record r { sent = later; free = free })
@@ -98,8 +103,7 @@ module _ (present : List (KeyValue Value)) (streams : List ℕ → Stream) (w : 
       let one_more : length (w ++ map waits later) ≡ length before.1.inbox + 1 = ap length longer ∙ length-append before.1.inbox (waits v ∷ []) in
       let room : nat_lt (length before.1.inbox) inbox_limit ≡ true = lt-ltb (length before.1.inbox) inbox_limit (below (length before.1.inbox) free r.free h one_less) in (
         counted (length before.1.inbox) (length (w ++ map waits later)) free r.free h one_less one_more,
-        streams,
-        rw (fits, room) (ap (λ l. Ok (before.0, record before.1 { inbox = l })) (sym longer)),
+        (streams, rw (fits, room) (ap (λ l. Ok (before.0, record before.1 { inbox = l })) (sym longer))),
       )
 
   pub is_full : (v : model.Value) (d : Data) → sendable v ≡ Ok d → r.free ≡ 0 → IsErr (apply_effect (send_self v) before)
