@@ -7,4 +7,4 @@ mod message;
 
 pub use event::EventValue;
 pub use head::MessageHead;
-pub use message::{Message, MessageFault};
+pub use message::{Message, MessageFault, read_message};
