@@ -228,13 +228,17 @@ fn message_by_topic(
     Ok(None)
 }
 
-fn message_of_items(alloc: Global, items: &[Json]) -> Result<Option<Message>, OutOfMemory>
-    ensures is { IfOk result (λ m. option_map message_view m ≡ message_of_json (array (items_view items.now))) }
+fn message_from(
+    alloc: Global,
+    join_ref: &Json,
+    reference: &Json,
+    topic: &Json,
+    event: &Json,
+    payload: &Json,
+) -> Result<Option<Message>, OutOfMemory>
+    ensures is { IfOk result (λ m. option_map message_view m ≡ message_from (view join_ref.now) (view reference.now) (view topic.now) (view event.now) (view payload.now)) }
     ensures names { IfOk result IfReadNames }
 {
-    let [join_ref, reference, topic, event, payload] = items else {
-        return Ok(None);
-    };
     let Some(event) = event.as_str() else {
         return Ok(None);
     };
@@ -247,6 +251,18 @@ fn message_of_items(alloc: Global, items: &[Json]) -> Result<Option<Message>, Ou
     }
 }
 
+fn message_of_items(alloc: Global, items: &[Json]) -> Result<Option<Message>, OutOfMemory>
+    ensures is { IfOk result (λ m. option_map message_view m ≡ message_of_json (array (items_view items.now))) }
+    ensures names { IfOk result IfReadNames }
+{
+    match items {
+        [join_ref, reference, topic, event, payload] => {
+            message_from(alloc, join_ref, reference, topic, event, payload)
+        }
+        _ => Ok(None),
+    }
+}
+
 fn message_of_json(alloc: Global, json: &Json) -> Result<Option<Message>, OutOfMemory>
     ensures is { IfOk result (λ m. option_map message_view m ≡ message_of_json (view json.now)) }
     ensures names { IfOk result IfReadNames }
@@ -254,6 +270,22 @@ fn message_of_json(alloc: Global, json: &Json) -> Result<Option<Message>, OutOfM
     match json.as_array() {
         Some(items) => message_of_items(alloc, items.as_slice()),
         None => Ok(None),
+    }
+}
+
+fn message_of(alloc: Global, text: &[u8]) -> Result<Option<Message>, OutOfMemory>
+    ensures is { IfOk result (λ m. option_map message_view m ≡ message_of text.now) }
+    ensures names { IfOk result IfReadNames }
+{
+    match Json::from_slice(alloc, text) {
+        Ok(json) => message_of_json(alloc, &json),
+        Err(fault) => {
+            if fault.is_memory() {
+                Err(OutOfMemory)
+            } else {
+                Ok(None)
+            }
+        }
     }
 }
 
@@ -268,17 +300,8 @@ pub fn read_message(alloc: Global, text: &[u8]) -> Result<Message, MessageFault>
     ensures names { IfOk result NamesComponent }
     ensures malformed { IsErrOf result MessageFault.Malformed → message_of text.now ≡ None }
 {
-    match Json::from_slice(alloc, text) {
-        Ok(json) => match message_of_json(alloc, &json)? {
-            Some(message) => Ok(message),
-            None => Err(MessageFault::Malformed),
-        },
-        Err(fault) => {
-            if fault.is_memory() {
-                Err(MessageFault::OutOfMemory)
-            } else {
-                Err(MessageFault::Malformed)
-            }
-        }
+    match message_of(alloc, text)? {
+        Some(message) => Ok(message),
+        None => Err(MessageFault::Malformed),
     }
 }
