@@ -4,6 +4,9 @@
 mod event;
 mod head;
 mod message;
+mod payload;
+#[cfg(test)]
+mod tests;
 
 pub use event::EventValue;
 pub use head::MessageHead;

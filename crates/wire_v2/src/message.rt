@@ -1,14 +1,13 @@
 //! The messages that a browser sends.
-ghost use Rattle.std.specs.Prelude.{◌≡◌, ◌≢◌, Some, None, codes, IfOk, IsErrOf, option_map};
-ghost use Rattle.std.specs.List.{list_all};
+ghost use Rattle.std.specs.Prelude.{◌≡◌, Some, None, codes, IfOk, IsErrOf, option_map};
 ghost use Rattle.serde_json.specs.Data.{array};
-ghost use Rattle.serde_json.specs.Find.{get};
 ghost use Rattle.serde_json.specs.View.{view, items_view};
-ghost use Rattle.wire_v2.specs.Message.{destroyed, event_message, has_numbers, if_numbers, is_live_topic, is_whole, join, live_message, message_by_topic, message_from, message_of, message_of_json, patch, text_at, url_of, will_destroy};
+ghost use Rattle.wire_v2.specs.Message.{destroyed, event_message, if_numbers, is_live_topic, join, live_message, message_by_topic, message_from, message_of, message_of_json, patch, text_at, url_of, will_destroy};
 ghost use Rattle.wire_v2.specs.View.{head_view, message_view, NamesComponent, IfReadNames};
 
 use crate::event::{EventValue, component_number, component_of, event_value};
 use crate::head::{MessageHead, head_of};
+use crate::payload::{has_numbers, text_at, url_of};
 use serde_json::Value as Json;
 use std::alloc::Global;
 use text_core::{OutOfMemory, Text};
@@ -64,56 +63,6 @@ impl From<OutOfMemory> for MessageFault {
     }
 }
 
-// The text under a name of the payload.
-fn text_at<'a>(payload: &'a Json, name: &str) -> Option<&'a str>
-    ensures { option_map (λ x. x.now) result ≡ text_at name.now (view payload.entry.now) }
-{
-    payload.get(name).and_then(Json::as_str)
-}
-
-// `url`, or else `redirect`.
-fn url_of(payload: &Json) -> Option<&str>
-    ensures { option_map (λ x. x.now) result ≡ url_of (view payload.entry.now) }
-{
-    match text_at(payload, "url") {
-        Some(url) => Some(url),
-        None => text_at(payload, "redirect"),
-    }
-}
-
-// A topic of a page is `lv:` and more.
-fn is_live_topic(topic: &str) -> bool
-    ensures { result ≡ is_live_topic topic.now }
-{
-    if topic.len() <= 3 {
-        return false;
-    }
-    &topic.as_bytes()[..3] == b"lv:".as_slice()
-}
-
-fn is_whole(item: &Json) -> bool
-    ensures { result ≡ is_whole (view item.now) }
-{
-    item.is_u64() || item.is_i64()
-}
-
-fn all_whole(items: &[Json]) -> bool
-    ensures { result ≡ list_all (λ x. is_whole (view x)) items.now }
-{
-    items.iter().all(|item| is_whole(item))
-}
-
-// Whether `cids` is a list of whole numbers.
-#[tactic(auto, using(crate::proofs::Items::all_are_whole))]
-fn has_numbers(payload: &Json) -> bool
-    ensures { result ≡ has_numbers (get (codes "cids") (view payload.now)) }
-{
-    match payload.get("cids").and_then(Json::as_array) {
-        Some(items) => all_whole(items.as_slice()),
-        None => false,
-    }
-}
-
 fn join(alloc: Global, head: MessageHead, payload: &Json) -> Result<Option<Message>, OutOfMemory>
     ensures is { IfOk result (λ m. option_map message_view m ≡ option_map (join (head_view head)) (url_of (view payload.now))) }
     ensures names { IfOk result IfReadNames }
@@ -140,6 +89,7 @@ fn patch(alloc: Global, head: MessageHead, payload: &Json) -> Result<Option<Mess
     }
 }
 
+// What may refuse comes first: then nothing that was copied is thrown away.
 fn event_message(
     alloc: Global,
     head: MessageHead,
@@ -190,6 +140,7 @@ fn destroyed(head: MessageHead, payload: &Json) -> Option<Message>
     }
 }
 
+// The message of a page, by its event.
 fn live_message(
     alloc: Global,
     head: MessageHead,
@@ -210,6 +161,17 @@ fn live_message(
     }
 }
 
+// A topic of a page is `lv:` and more.
+fn is_live_topic(topic: &str) -> bool
+    ensures { result ≡ is_live_topic topic.now }
+{
+    if topic.len() <= 3 {
+        return false;
+    }
+    &topic.as_bytes()[..3] == b"lv:".as_slice()
+}
+
+// The message, by its topic and its event.
 fn message_by_topic(
     alloc: Global,
     head: MessageHead,
@@ -251,6 +213,7 @@ fn message_from(
     }
 }
 
+// A message has five items.
 fn message_of_items(alloc: Global, items: &[Json]) -> Result<Option<Message>, OutOfMemory>
     ensures is { IfOk result (λ m. option_map message_view m ≡ message_of_json (array (items_view items.now))) }
     ensures names { IfOk result IfReadNames }
@@ -273,6 +236,7 @@ fn message_of_json(alloc: Global, json: &Json) -> Result<Option<Message>, OutOfM
     }
 }
 
+// The message that bytes spell, if they spell one.
 fn message_of(alloc: Global, text: &[u8]) -> Result<Option<Message>, OutOfMemory>
     ensures is { IfOk result (λ m. option_map message_view m ≡ message_of text.now) }
     ensures names { IfOk result IfReadNames }
