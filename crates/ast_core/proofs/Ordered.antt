@@ -33,7 +33,7 @@ with_end k [] before = refl
 with_end k (l ∷ ls) before =
     rw (before 0 l (omega arith)) (ap (λ m. l ∷ m) (with_end k ls (λ j e below. before (suc j) e (omega arith))))
 
-below : (k l : List ℕ) → order k l ≡ Greater → order l k ≡ Less
+pub below : (k l : List ℕ) → order k l ≡ Greater → order l k ≡ Less
 below k l h = nat_list_cmp_total.antisymm l k ∙ ap ordering_reverse h
 
 above : (k l : List ℕ) → order k l ≡ Less → order l k ≡ Greater

@@ -7,6 +7,8 @@ mod node;
 mod operators;
 mod pattern;
 mod reading;
+#[cfg(test)]
+mod tests;
 mod walk;
 mod walk_expr;
 mod walk_node;
