@@ -2,6 +2,7 @@
 #![tactic(auto)]
 
 mod expr;
+mod laws;
 mod linked;
 mod node;
 mod operators;
@@ -14,6 +15,7 @@ mod walk_expr;
 mod walk_node;
 
 pub use expr::{Expr, Exprs, Operand, Pair, Pairs, Parts, PathStep, PipeCall, TextPart};
+pub use laws::{reads_exactly, reads_in_order};
 pub use linked::{Bodies, Linked, Module, Modules, Template, Templates};
 pub use node::{
     Attribute, AttributeValue, Attributes, Clause, Clauses, Entries, Entry, Generator, Location,

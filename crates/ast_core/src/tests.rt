@@ -1,5 +1,8 @@
 //! What nodes read, against worked examples.
-use crate::{BinaryOp, Clause, Expr, Location, Node, Operand, Pattern, Place, SlotBody, reads};
+use crate::{
+    BinaryOp, Clause, Entry, Expr, Generator, Location, Node, Operand, Pattern, Place, SlotBody,
+    reads,
+};
 use std::alloc::Global;
 use std::test::Fail;
 use text_core::{OutOfMemory, Seq, Text};
@@ -125,5 +128,52 @@ fn a_slot_body(rt: HostRuntime) -> Result<(), Fail> {
         entries: Seq::new(alloc),
     });
     assert_eq!(rt; listed(alloc, &node)?.as_str(), "a |");
+    Ok(())
+}
+
+// <:col :for={c <- cols} :if={@shown}>{c} {@a}</:col> of a call
+#[test]
+fn a_slot_entry(rt: HostRuntime) -> Result<(), Fail> {
+    let alloc = rt.alloc();
+    let entry = Entry {
+        at: Location { line: 2, column: 3 },
+        slot: Text::copy_of(alloc, "col")?,
+        generator: Some(Generator {
+            pattern: named(alloc, "c")?,
+            list: variable(alloc, "cols")?,
+        }),
+        test: Some(assign(alloc, "shown")?),
+        attributes: Seq::new(alloc),
+        body: SlotBody {
+            number: 1,
+            pattern: None,
+            nodes: both(alloc, variable(alloc, "c")?, assign(alloc, "a")?)?,
+        },
+    };
+    let node = placed(Place::Call {
+        template: Text::copy_of(alloc, "table")?,
+        attributes: Seq::new(alloc),
+        content: SlotBody {
+            number: 0,
+            pattern: None,
+            nodes: Seq::new(alloc),
+        },
+        entries: one(alloc, entry)?,
+    });
+    assert_eq!(rt; listed(alloc, &node)?.as_str(), "a shown | cols");
+    Ok(())
+}
+
+// for {id, row} <- @streams.rows do {id} {@total}
+#[test]
+fn a_stream(rt: HostRuntime) -> Result<(), Fail> {
+    let alloc = rt.alloc();
+    let node = placed(Place::StreamFor {
+        stream: Text::copy_of(alloc, "rows")?,
+        id: Text::copy_of(alloc, "id")?,
+        pattern: named(alloc, "row")?,
+        body: both(alloc, variable(alloc, "id")?, assign(alloc, "total")?)?,
+    });
+    assert_eq!(rt; listed(alloc, &node)?.as_str(), "total |");
     Ok(())
 }
