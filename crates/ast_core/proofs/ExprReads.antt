@@ -1,8 +1,7 @@
 -- The names in an expression, from those in what stands inside it.
-use Rattle.std.proofs.Common.{◌≡◌, ◌⊎◌, inl, inr, ℕ, List, [], ◌∷◌, ◌++◌, map, Option, Some, None, option_map, Box, refl, sym, ap, ◌∙◌, append_assoc, append-nil}
+use Rattle.std.proofs.Common.{◌≡◌, ◌⊎◌, inl, inr, ℕ, List, [], ◌∷◌, ◌++◌, map, Some, None, Box, refl, sym, ap, ◌∙◌, append_assoc, append-nil}
 use Rattle.std.specs.declared.alloc.Global.{Global}
 use Rattle.ast_core.specs.declared.operators.BinaryOp.{BinaryOp}
-use Rattle.ast_core.specs.declared.operators.UnaryOp.{UnaryOp}
 use Rattle.ast_core.specs.declared.operators.Function.{Function}
 use Rattle.ast_core.specs.declared.expr.Expr.{Expr}
 use Rattle.ast_core.specs.declared.expr.TextPart.{TextPart}
@@ -16,7 +15,7 @@ use Rattle.ast_core.specs.declared.expr.Expr.TheViews.{roll-Expr}
 use Rattle.ast_core.specs.declared.expr.Expr.TheFolds.{map-Expr, fold-roll-Expr, fold_out-Pair, fold_out-Operand, fold_out-PipeCall}
 use Rattle.ast_core.specs.Syntax as model
 use Rattle.ast_core.specs.Syntax.{Name, Exprs, expr, no_exprs}
-use Rattle.ast_core.specs.ExprView.{Part, plain_part, expr_part, Step, field_step, index_step, exprs_of, pairs_of, parts_of, path_of, left_chain, right_chain, pipes_of, or_nil, expr_view, expr_step, path_step, part_step, operand_step, pair_step, call_step}
+use Rattle.ast_core.specs.ExprView.{Part, plain_part, expr_part, Step, field_step, index_step, exprs_of, pairs_of, parts_of, path_of, left_chain, right_chain, pipes_of, expr_view, expr_step, path_step, part_step, operand_step, pair_step, call_step}
 use Rattle.ast_core.specs.Free.{free_names, free_exprs, free_pairs, free_parts}
 use Rattle.ast_core.specs.NamesIn.{all_names, expr_reads, part_view, part_names, part_reads, pair_view, pair_reads, step_view, step_names, step_reads, operand_view, operand_reads, call_view, call_reads}
 

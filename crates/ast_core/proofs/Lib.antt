@@ -1,5 +1,6 @@
 pub mod Examples
 pub mod ExprReads
+pub mod Members
 pub mod NodeReads
 pub mod Ordered
 pub mod PatternReads

@@ -20,8 +20,7 @@ use Rattle.ast_core.specs.declared.node.Node.TheFolds.{map-Node, map-Place, fold
 use Rattle.ast_core.specs.Syntax as model
 use Rattle.ast_core.specs.Syntax.{Name}
 use Rattle.ast_core.specs.ExprView.{expr_view, or_nil}
-use Rattle.ast_core.specs.PatternView.{pattern_view}
-use Rattle.ast_core.specs.NodeView.{SeenEntry, attribute_on, attributes_view, or_any, generator_view, location_of, nodes_of, clauses_of, entries_of, node_view, place_view, clause_view, entry_view, body_view, node_step, place_step, clause_step, entry_step, body_step}
+use Rattle.ast_core.specs.NodeView.{SeenEntry, attribute_on, attributes_view, or_any, generator_view, nodes_of, clauses_of, entries_of, node_view, place_view, clause_view, entry_view, body_view, node_step, place_step, clause_step, entry_step, body_step}
 use Rattle.ast_core.specs.Free.{free_names, bound, without, free_nodes, free_node, free_place, free_clauses, free_entries, free_body, free_test, free_attributes, free_inside}
 use Rattle.ast_core.specs.NamesIn.{all_names, bound_by, expr_reads, option_reads, value_reads, attribute_reads, node_reads, place_reads, clause_names, clause_reads, body_reads, entry_names, entry_reads}
 

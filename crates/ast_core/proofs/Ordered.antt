@@ -1,16 +1,15 @@
 -- Names in byte order: where one more goes, and that the order in which they are met does not matter.
-use Rattle.std.proofs.Common.{◌≡◌, ℕ, zero, suc, ◌+◌, ◌<◌, ◌≤◌, List, [], ◌∷◌, ◌++◌, length, get_or, drop, insert, Bool, true, false, if◌then◌else◌, refl, sym, ap, ◌∙◌, arith, Less, Equal, Greater, nat_cmp}
-use Rattle.std.specs.Str.{bytes_eq}
-use Rattle.std.specs.Ordering.{is_lt, match_ordering, ordering_reverse}
+use Rattle.std.proofs.Common.{◌≡◌, ℕ, zero, suc, ◌<◌, List, [], ◌∷◌, length, get_or, insert, Bool, true, false, if◌then◌else◌, refl, sym, ap, ◌∙◌, arith, Less, Equal, Greater}
+use Rattle.std.specs.Ordering.{match_ordering, ordering_reverse}
 use Rattle.std.specs.declared.cmp.Ordering.{Ordering}
-use Rattle.std.specs.Cmp.Lexicographic.{slice_cmp, nat_list_cmp_total}
+use Rattle.std.specs.Cmp.Lexicographic.{nat_list_cmp_total}
 use Rattle.std.proofs.lemmas.Map.Lookups.{exact_bytes}
 use Rattle.text_core.proofs.Keyed.{order}
 use Rattle.ast_core.specs.declared.walk.Walk.{Walk}
 use Rattle.ast_core.specs.Syntax.{Name, at, var}
 use Rattle.ast_core.specs.Reads.{with_name, assigns_in, variables_in}
 use Rattle.ast_core.specs.Free.{one_of}
-use Rattle.ast_core.specs.Walk.{start, meet, met}
+use Rattle.ast_core.specs.Walk.{start, met}
 
 -- the first n names are below k
 abbrev pub Passed : List ℕ → List (List ℕ) → ℕ → Type 0
@@ -33,7 +32,7 @@ with_end k [] before = refl
 with_end k (l ∷ ls) before =
     rw (before 0 l (omega arith)) (ap (λ m. l ∷ m) (with_end k ls (λ j e below. before (suc j) e (omega arith))))
 
-below : (k l : List ℕ) → order k l ≡ Greater → order l k ≡ Less
+pub below : (k l : List ℕ) → order k l ≡ Greater → order l k ≡ Less
 below k l h = nat_list_cmp_total.antisymm l k ∙ ap ordering_reverse h
 
 above : (k l : List ℕ) → order k l ≡ Less → order l k ≡ Greater

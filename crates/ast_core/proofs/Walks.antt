@@ -1,12 +1,12 @@
 -- What a walk meets in lists, and in the scope of variables.
-use Rattle.std.proofs.Common.{◌≡◌, ℕ, zero, suc, ◌+◌, ◌<◌, ◌≤◌, List, [], ◌∷◌, ◌++◌, length, get_or, take, drop, Bool, true, false, if◌then◌else◌, refl, sym, ap, ◌∙◌, arith, append_assoc, append-nil, length-append, Result, OnOk, subst}
+use Rattle.std.proofs.Common.{◌≡◌, ℕ, ◌+◌, ◌<◌, ◌≤◌, List, [], ◌∷◌, ◌++◌, length, get_or, take, drop, Bool, true, false, if◌then◌else◌, refl, sym, ap, ◌∙◌, arith, append_assoc, append-nil, length-append, Result, OnOk, subst}
 use Rattle.std.proofs.lemmas.List.{drop_all}
 use Rattle.std.specs.Str.{bytes_eq}
 use Rattle.text_core.proofs.Keyed.{cons_at}
 use Rattle.ast_core.specs.declared.walk.Walk.{Walk}
 use Rattle.ast_core.specs.Syntax.{Name, at, var}
 use Rattle.ast_core.specs.Free.{one_of, without}
-use Rattle.ast_core.specs.Reads.{with_name, assigns_in, variables_in}
+use Rattle.ast_core.specs.Reads.{with_name}
 use Rattle.ast_core.specs.NamesIn.{all_names, all_bound}
 use Rattle.ast_core.specs.Walk.{meet, met, inside, outside}
 

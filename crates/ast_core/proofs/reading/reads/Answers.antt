@@ -1,7 +1,7 @@
-use Rattle.std.proofs.Common.{◌≡◌, ◌∙◌, ap}
+use Rattle.std.proofs.Common.{◌∙◌, ap}
 use Rattle.ast_core.specs.declared.walk.Walk.{Walk}
 use Rattle.ast_core.specs.NamesIn.{node_reads}
-use Rattle.ast_core.specs.Walk.{start, met}
+use Rattle.ast_core.specs.Walk.{met}
 use Rattle.ast_core.proofs.Ordered.{assigns_met, variables_met}
 use Rattle.ast_core.proofs.reading.reads.Goals as goal
 

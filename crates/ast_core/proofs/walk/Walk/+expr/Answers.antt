@@ -1,4 +1,4 @@
-use Rattle.std.proofs.Common.{◌≡◌, ◌++◌, OnOk, sym, ap, ◌∙◌, refl}
+use Rattle.std.proofs.Common.{◌++◌, sym, ap, ◌∙◌}
 use Rattle.ast_core.specs.NamesIn.{all_names, expr_reads, part_reads, pair_reads, step_reads, operand_reads, call_reads}
 use Rattle.ast_core.specs.Walk.{met}
 use Rattle.ast_core.specs.declared.expr.Expr.TheVariants as form

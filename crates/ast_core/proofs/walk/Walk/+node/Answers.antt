@@ -1,4 +1,4 @@
-use Rattle.std.proofs.Common.{◌≡◌, ◌∷◌, ◌++◌, [], refl, sym, ap, ◌∙◌}
+use Rattle.std.proofs.Common.{◌∷◌, ◌++◌, [], refl, sym, ap, ◌∙◌}
 use Rattle.ast_core.specs.declared.node.Entry.{out-Entry}
 use Rattle.ast_core.specs.Walk.{met, inside}
 use Rattle.ast_core.specs.Free.{without}
