@@ -17,12 +17,12 @@ struct Greeting;
 
 impl Views for Greeting {
     ghost meaning = { λ _. record {
-        mount = λ view _. if view == 0 then Some (assign_to (codes "greeting") (text (codes "hello")) ∷ []) else None;
-        handle_params = λ _ _ _. Some [];
-        handle_event = λ _ _ _ _. None;
-        handle_info = λ _ message _. Some (push_event (codes "told") message ∷ []);
-        mount_component = λ _. None;
-        update_component = λ _ _ _. None;
+      mount = λ view _. if view == 0 then Some (assign_to (codes "greeting") (text (codes "hello")) ∷ []) else None;
+      handle_params = λ _ _ _. Some [];
+      handle_event = λ _ _ _ _. None;
+      handle_info = λ _ message _. Some (push_event (codes "told") message ∷ []);
+      mount_component = λ _. None;
+      update_component = λ _ _ _. None;
     } };
 
     fn mount(&self, alloc: Global, view: u32, _params: &Value) -> Result<Effects, ViewFault> {
