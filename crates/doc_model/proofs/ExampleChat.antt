@@ -10,10 +10,10 @@ use Rattle.doc_model.specs.Evaluation.{eval_expr}
 use Rattle.view_api.specs.Effect.{Effect, assign_to, stream_insert, subscribe, publish}
 use Rattle.view_api.specs.Meaning.{ViewMeaning}
 use Rattle.doc_model.specs.Effects.{mailed}
-use Rattle.wire_v2.specs.Message.{head_of, form_text, join, event}
+use Rattle.wire_v2.specs.Message.{form_text, join, event}
 use Rattle.doc_model.specs.Process.{World, Stepped, begin_state, step_message, step_waiting}
 use Rattle.doc_model.proofs.ExampleParts.{tag, place, words, one, all_nodes, put_assign, int, assigned, variable, map_expr, scope}
-use Rattle.doc_model.proofs.ExampleWorlds.{where_ok, scripted, world_of, home_alone}
+use Rattle.doc_model.proofs.ExampleWorlds.{where_ok, scripted, world_of, home_alone, head_with}
 
 -- `<li :for={{d, m} <- @streams.msgs} id={d}><b>{m.name}</b>: {m.body}</li>`
 abbrev rows : Nodes
@@ -78,10 +78,10 @@ chatting = record (world_of home_alone chat views) {
 
 -- a browser of this topic joins, and then sends this form
 abbrev pub comes : List ℕ → Stepped
-comes topic = step_message chatting begin_state [] (join (head_of (Some (codes "1")) (Some (codes "1")) topic) (codes "/chat/lobby"))
+comes topic = step_message chatting begin_state [] (join (head_with (Some (codes "1")) (Some (codes "1")) topic) (codes "/chat/lobby"))
 
 abbrev pub submits : List ℕ → List ℕ → Stepped
-submits topic t = step_message chatting (comes topic).state [] (event (head_of (Some (codes "1")) (Some (codes "2")) topic) (codes "save") (form_text t) 0)
+submits topic t = step_message chatting (comes topic).state [] (event (head_with (Some (codes "1")) (Some (codes "2")) topic) (codes "save") (form_text t) 0)
 
 -- a mail of the topic
 abbrev pub receives : Stepped → List ℕ → Stepped

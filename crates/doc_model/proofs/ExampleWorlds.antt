@@ -1,5 +1,8 @@
 -- Processes for the worked examples: views as handler steps, and what a browser is sent and shows.
-use Rattle.std.proofs.Common.{ℕ, ℤ, List, [], ◌∷◌, map, Ok, Err, Option, Some, None, option_map, codes, if◌then◌else◌}
+use Rattle.std.specs.Str.{is_utf8}
+use Rattle.std.proofs.lemmas.Str.{is_utf8-from_IsUtf8}
+use Rattle.json.proofs.Printed.Utf8.{are_ascii, IsUtf8-are_ascii}
+use Rattle.std.proofs.Common.{◌≡◌, true, ℕ, ℤ, List, [], ◌∷◌, map, Ok, Err, Option, Some, None, option_map, codes, if◌then◌else◌}
 use Rattle.std.specs.Str.{bytes_eq}
 use Rattle.serde_json.specs.Written.{compact_text}
 use Rattle.value_core.specs.Value.{Value, nil, map_of, Assigns, no_assigns, assign}
@@ -16,6 +19,14 @@ use Rattle.view_api.specs.Meaning.{Handler, of_view, of_module, ViewMeaning}
 use Rattle.wire_v2.specs.Message.{MessageHead, plain_value, Message, join, event}
 use Rattle.doc_model.specs.Process.{World, Route, begin_state, page_text, Stepped, step_message}
 use Rattle.doc_model.proofs.ExampleParts.{scope}
+
+-- a text of ASCII is UTF-8
+pub utf8 : (t : List ℕ) → are_ascii t ≡ true → is_utf8 t ≡ true
+utf8 t h = is_utf8-from_IsUtf8 t (IsUtf8-are_ascii t h)
+
+-- the first three items of a message
+abbrev pub head_with : Option (List ℕ) → Option (List ℕ) → List ℕ → MessageHead
+head_with j r t = record { join_reference = j; reference = r; topic = t }
 
 -- what a handler does: an assign, and a stream's insert (with the dom id), delete and reset
 pub data Step : Type 0 where

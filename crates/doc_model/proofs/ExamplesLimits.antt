@@ -21,7 +21,7 @@ use Rattle.wire_v2.specs.Message.{message_of}
 use Rattle.doc_model.specs.Process.{World, frame_of, step_waiting}
 use Rattle.doc_model.proofs.ExampleParts.{tag, place, words, one, all_nodes, put_assign, quote, int, scope}
 use Rattle.doc_model.proofs.ExamplesPages.{counting, start}
-use Rattle.doc_model.proofs.ExampleWorlds.{assign_step, page_alone, home_alone, joined, event_after, frames_text, carried_text, client_page, full_page}
+use Rattle.doc_model.proofs.ExampleWorlds.{assign_step, page_alone, home_alone, joined, event_after, frames_text, carried_text, client_page, full_page, utf8}
 
 -- the names `a` to `k`
 abbrev names : List (List ℕ)
@@ -81,8 +81,8 @@ deep_event n = codes "[\"1\",\"2\",\"lv:A\",\"event\",{\"event\":\"inc\",\"type\
 example_deep_message_value_frames : frames_text (step_waiting counting start.state [] (heard (deep_event 100)))
     ≡ codes "[\"1\",\"2\",\"lv:A\",\"phx_reply\",{\"response\":{\"diff\":{\"0\":\"1\"}},\"status\":\"ok\"}]" ∷ []
 unfolding digits items members value lex punctuate content after_number word number_of scan_numeral escape_byte
-example_deep_message_value_frames = refl
+example_deep_message_value_frames = rw (utf8 (deep_event 100) refl) refl
 
 example_deep_message_value_malformed : message_of (deep_event 101) ≡ None
 unfolding items members value lex punctuate content after_number word number_of scan_numeral
-example_deep_message_value_malformed = refl
+example_deep_message_value_malformed = rw (utf8 (deep_event 101) refl) refl

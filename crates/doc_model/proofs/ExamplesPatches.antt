@@ -7,10 +7,10 @@ use Rattle.value_core.specs.Value.{text}
 use Rattle.ast_core.specs.Syntax.{no_attributes}
 use Rattle.view_api.specs.Effect.{assign_to}
 use Rattle.view_api.specs.Meaning.{ViewMeaning}
-use Rattle.wire_v2.specs.Message.{Message, patch, will_destroy, destroyed, join, head_of}
+use Rattle.wire_v2.specs.Message.{Message, patch, will_destroy, destroyed, join}
 use Rattle.doc_model.specs.Process.{World, Stepped, step_message}
 use Rattle.doc_model.proofs.ExampleParts.{tag, one, all_nodes, put_assign}
-use Rattle.doc_model.proofs.ExampleWorlds.{scripted, world_of, home_alone, head, joined, frames_text, client_page}
+use Rattle.doc_model.proofs.ExampleWorlds.{scripted, world_of, home_alone, head, joined, frames_text, client_page, head_with}
 
 -- params are the URL's text here: each time they are handled `u` is assigned, and a mount assigns `m`
 abbrev views : ViewMeaning
@@ -70,7 +70,7 @@ example_destroyed_frames = refl
 
 -- a join under another topic takes the place of the page without a word of the old one, and null stays null
 abbrev again : Stepped
-again = after_message (join (head_of None None (codes "lv:B")) (codes "/a"))
+again = after_message (join (head_with None None (codes "lv:B")) (codes "/a"))
 
 example_join_again_frames : frames_text again
     ≡ codes "[null,null,\"lv:B\",\"phx_reply\",{\"response\":{\"rendered\":{\"0\":\"m\",\"1\":\"/a\",\"s\":[\"<p>\",\"\",\"</p>\"]}},\"status\":\"ok\"}]" ∷ []
