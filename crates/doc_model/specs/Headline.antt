@@ -3,6 +3,8 @@ use Rattle.std.specs.Prelude.{◌≡◌, ℕ, List, [], ◌∷◌, ◌++◌}
 use Rattle.ast_core.specs.Syntax.{Template, Linked}
 use Rattle.ast_core.specs.Places.{streams_in, Once}
 use Rattle.doc_model.specs.Bundle.{template_in, site_of}
+use Rattle.doc_model.specs.Table.{Honest}
+use Rattle.doc_model.specs.Effects.{ViewMeaning, views_of}
 use Rattle.doc_model.specs.Process.{World}
 use Rattle.doc_model.specs.Journal.{Entry, Standing, process_step, after_step, replay_journal, frames_of_entry, spelled, written_frames, journal_size, Allowed, LawfulJournal, FramesShowPage, DiffsAreLean, SessionHolds}
 
@@ -19,6 +21,10 @@ EachOnce (t ∷ ts) = Once (streams_in t.nodes) × EachOnce ts
 -- a world that renders the templates of such a bundle is linked
 abbrev pub BundleLinks : Type 0
 BundleLinks = (w : World) (l : Linked) (name : ℕ → List ℕ) → EachOnce l.templates → w.site ≡ site_of l → ((v : ℕ) → w.template_of v ≡ template_in l.templates (name v)) → IsLinked w
+
+-- the handlers of a process write to batches alone: the premise of `SessionShows` holds of its views
+abbrev pub HandlersAreHonest : Type 0
+HandlersAreHonest = (views : ViewMeaning) → Honest (views_of views)
 
 -- after any entries, lawful or not, the frames since the latest join merge and show the page
 abbrev pub JournalShows : Type 0

@@ -1,7 +1,7 @@
 //! What the definitions keep: each law is the promise of a function that does nothing.
 
 ghost use Rattle.doc_model.specs.Effects.{Rest};
-ghost use Rattle.doc_model.specs.Headline.{BundleLinks, JournalIsLean, JournalShows, LawfulHolds, SessionGoesOn};
+ghost use Rattle.doc_model.specs.Headline.{BundleLinks, HandlersAreHonest, JournalIsLean, JournalShows, LawfulHolds, SessionGoesOn};
 ghost use Rattle.doc_model.specs.Laws.{HeldTreeShows, MergeLeanWhole, StaticsWeave, TakenWhole, WholeTreeShows};
 ghost use Rattle.doc_model.specs.Mark.{MarkIsAtRoot};
 ghost use Rattle.doc_model.specs.Run.{SessionShows, SettledShows};
@@ -69,6 +69,11 @@ pub fn settled_shows()
 /// A bundle is linked where no stream has two places in one of its templates.
 pub fn bundle_links()
     ensures { BundleLinks }
+{}
+
+/// The handlers of a process write to assigns and batches alone, and change no container.
+pub fn handlers_are_honest()
+    ensures { HandlersAreHonest }
 {}
 
 /// After any entries, lawful or not, the frames since the latest join merge and show the page, where
