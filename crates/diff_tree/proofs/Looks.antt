@@ -3,7 +3,7 @@ use Rattle.std.proofs.Common.{◌≡◌, ◌⊎◌, inl, inr, ℕ, zero, suc, �
 use Rattle.std.proofs.lemmas.Bool.Decides.{Decides-eqb}
 use Rattle.diff_tree.specs.Container.{after, contents}
 use Rattle.diff_tree.specs.Tree.{Tree, text, number, node, list, stream, held, Trees, no_trees, tree, Rows, no_rows, row, Held, none_held, hold, weave, flat, show_value, show_values, show_rows, show_held}
-use Rattle.diff_tree.specs.Client.{PageTree, PageDiff, among, numbers_in, numbers_in_all, numbers_in_rows, numbers_in_held, all_found, closed, inside, reached, only_among, dropped, judged, merge_parts, merge_diff, and_then, look}
+use Rattle.diff_tree.specs.Client.{PageTree, among, numbers_in, numbers_in_all, numbers_in_rows, numbers_in_held, all_found, closed, inside, reached, only_among, dropped, judged, merge_parts, and_then, look}
 use Rattle.diff_tree.specs.Laws.{HoldsReached, ShowIgnoresLevels, MergeHoldsReached}
 use Rattle.diff_tree.proofs.Among.{both_true, among_itself, among_left, among_right, among_later}
 use Rattle.diff_tree.proofs.Closed.{among_split, inside_closed, reach_left, reach_right}

@@ -1,7 +1,7 @@
 -- The frames that a process sends, as JSON values, and what a client makes of them.
 use Rattle.std.specs.Prelude.{ℕ, List, [], ◌∷◌, Option, Some, None, if◌then◌else◌, codes}
 use Rattle.std.specs.Str.{bytes_eq}
-use Rattle.serde_json.specs.Data.{Data, null, string, array, object, Items, no_items, item, Members, no_members, put}
+use Rattle.serde_json.specs.Data.{Data, null, string, array, object, no_items, item, no_members, put}
 use Rattle.diff_tree.specs.Client.{PageTree, PageDiff, opened_tree, judged, merge_diff}
 use Rattle.diff_tree.specs.Spelling.{Pushed, page_tree_json, page_diff_json}
 

@@ -1,10 +1,10 @@
 -- Trees and diffs as JSON values.
-use Rattle.std.specs.Prelude.{ℕ, zero, suc, ℤ, pos, negsuc, List, [], ◌∷◌, Option, Some, None, Bool, true, false, if◌then◌else◌, codes}
+use Rattle.std.specs.Prelude.{ℕ, zero, suc, ℤ, pos, negsuc, List, [], ◌∷◌, Option, Some, None, Bool, true, false, codes}
 use Rattle.std.specs.Fmt.{decimal}
 use Rattle.serde_json.specs.Data.{Data, null, boolean, number as number_of, unsigned, string, array, object, Items, no_items, item, Members, no_members, put}
 use Rattle.serde_json.specs.Find.{of_integer}
 use Rattle.diff_tree.specs.Container.{Position, at_end, at_index, Limit, no_limit, first_few, last_few, Insert, Batch}
-use Rattle.diff_tree.specs.Tree.{Tree, text, number, node, list, stream, held, Trees, no_trees, tree, Rows, no_rows, row, Held, none_held, hold, Change, write, inner, rows, batch, Changes, no_changes, skip, change}
+use Rattle.diff_tree.specs.Tree.{Tree, text, number, node, list, stream, held, Trees, no_trees, tree, Rows, no_rows, row, Change, write, inner, rows, batch, Changes, no_changes, skip, change}
 use Rattle.diff_tree.specs.Client.{PageTree, PageDiff}
 
 -- a whole number

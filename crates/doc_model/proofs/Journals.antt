@@ -1,30 +1,28 @@
 -- The headline: the frames of a journal since the latest join merge and show the page.
-use Rattle.std.proofs.Common.{◌≡◌, ℕ, ◌+◌, ◌≤◌, arith, List, [], ◌∷◌, ◌++◌, Ok, Err, Option, Some, None, Bool, true, false, refl, sym, ap, ◌∙◌, subst, true≢false}
+use Rattle.std.proofs.Common.{◌≡◌, ℕ, ◌+◌, ◌≤◌, arith, List, [], ◌∷◌, Ok, Err, Option, Some, None, true, refl, sym, ap, ◌∙◌, subst, true≢false}
 use Rattle.ast_core.specs.Syntax.{Nodes}
 use Rattle.ast_core.specs.Places.{cut}
-use Rattle.value_core.specs.Value.{Assigns}
 use Rattle.diff_tree.specs.Container.{is_none}
 use Rattle.diff_tree.specs.Tree.{Change}
 use Rattle.diff_tree.specs.Client.{PageTree, PageDiff, judged, merge_diff, opened_tree, show_tree}
 use Rattle.diff_tree.specs.Spelling.{Pushed}
-use Rattle.diff_tree.specs.Frame.{Frame, FrameBody, rendered, changed, push, client_takes_all}
+use Rattle.diff_tree.specs.Frame.{Frame, rendered}
 use Rattle.doc_model.specs.Environment.{Stream, Component, Env}
 use Rattle.doc_model.specs.Evaluation.{Res, on_res}
 use Rattle.doc_model.specs.Trace.{Items}
 use Rattle.doc_model.specs.Tracing.{trace}
 use Rattle.doc_model.specs.FullRendering.{full_render}
 use Rattle.doc_model.specs.Lean.{is_empty}
-use Rattle.doc_model.specs.Left.{Containers, Based}
+use Rattle.doc_model.specs.Left.{Based}
 use Rattle.doc_model.specs.Once.{left, left_to}
 use Rattle.doc_model.specs.Components.{parts, Distinct, depth, HeldTree, whole_tree, lean_diff}
 use Rattle.doc_model.specs.Laws.{Gives}
 use Rattle.doc_model.specs.Table.{IsTable, SettledAs}
 use Rattle.doc_model.specs.Walk.{Walk, in_state, render_state}
-use Rattle.doc_model.specs.Run.{Turn, Joins, settled_stream, settled_components}
+use Rattle.doc_model.specs.Run.{Turn, settled_stream, settled_components}
 use Rattle.doc_model.specs.Effects.{Rest, views_of}
-use Rattle.doc_model.specs.Message.{MessageHead}
-use Rattle.doc_model.specs.Process.{World, Route, Page, Turning, Outcome, scope_of_view, levels, page_text, rendered_page, no_difference, reply_to}
-use Rattle.doc_model.specs.Journal.{Entry, Standing, begin_standing, process_step, after_step, replay_from, frames_from, since_join, frames_since_join, ShowsPage, ClientShows, PageShown}
+use Rattle.doc_model.specs.Process.{World, Page, Turning, Outcome, scope_of_view, levels, rendered_page, no_difference, reply_to}
+use Rattle.doc_model.specs.Journal.{Entry, Standing, begin_standing, process_step, after_step, replay_from, frames_from, since_join, frames_since_join, ClientShows, PageShown}
 use Rattle.doc_model.specs.Headline.{IsLinked, JournalShows}
 use Rattle.doc_model.proofs.Results.{On}
 use Rattle.doc_model.proofs.Sames.{both_true}
@@ -37,7 +35,7 @@ use Rattle.doc_model.proofs.Judged.{merge_lean_whole, taken_whole}
 use Rattle.doc_model.proofs.Settles.{settled_shows}
 use Rattle.doc_model.proofs.Runs.{traced_of, begins}
 use Rattle.doc_model.proofs.Handlers.{honest}
-use Rattle.doc_model.proofs.StepKinds.{Alike, Rerenders, Renders, AllQuiet, AllPlain, Carries, by_kind}
+use Rattle.doc_model.proofs.StepKinds.{Alike, Rerenders, Renders, AllQuiet, Carries, by_kind}
 use Rattle.doc_model.proofs.Takes.{Holding, quiet_all, diff_held, whole_held, since_append}
 use Rattle.doc_model.proofs.Unchanged.{unchanged_whole}
 

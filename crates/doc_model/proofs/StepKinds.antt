@@ -1,21 +1,21 @@
 -- What a step can be: nothing is rendered, the process goes down, a first rendering, or a rendering that follows.
-use Rattle.std.proofs.Common.{◌≡◌, ℕ, suc, List, [], ◌∷◌, ◌++◌, Ok, Err, Option, Some, None, Bool, true, false, ◌==◌, ◌&&◌, if◌then◌else◌, refl, sym, ap, ◌∙◌, subst, codes}
+use Rattle.std.proofs.Common.{◌≡◌, ℕ, suc, List, [], ◌∷◌, Ok, Err, Option, Some, None, Bool, true, false, ◌==◌, if◌then◌else◌, refl, sym, ap, ◌∙◌, subst, codes}
 use Rattle.std.proofs.lemmas.Bool.Decides.{Decides-eqb}
 use Rattle.std.specs.Str.{bytes_eq}
 use Rattle.value_core.specs.Value.{Value, no_assigns}
 use Rattle.ast_core.specs.Places.{cut}
 use Rattle.diff_tree.specs.Client.{PageDiff}
 use Rattle.diff_tree.specs.Spelling.{Pushed}
-use Rattle.diff_tree.specs.Frame.{Frame, FrameBody, empty, rendered, changed, refusal, no_cids, push, closed, faulted}
+use Rattle.diff_tree.specs.Frame.{Frame, FrameBody, empty, rendered, changed, refusal, no_cids, push}
 use Rattle.doc_model.specs.Environment.{Component}
-use Rattle.doc_model.specs.Evaluation.{Res, then_do, on_res}
+use Rattle.doc_model.specs.Evaluation.{Res, then_do}
 use Rattle.doc_model.specs.Components.{whole_tree, lean_diff}
 use Rattle.doc_model.specs.Walk.{Owner, owner_of, component_with}
 use Rattle.doc_model.specs.Effects.{Effect, Waiting, heard, mailed, sent, Rest, Applied, applied_or_raise, empty_stream, of_view, of_module}
 use Rattle.doc_model.specs.Message.{MessageHead, Message, beat, join, leave, event, patch, will_destroy, destroyed, message_of}
-use Rattle.doc_model.specs.Process.{World, Route, Page, ProcessState, Turning, Outcome, Stepped, rendered_page, turning_view, joined_page, view_turn, component_at, with_owner, component_turn, frame_of, reply_to, rest_of, no_difference, diff_body, push_frames, reply_diff, after_turn, after_join, step_join, step_component, step_event, step_patch, is_of, if_fresh, step_message, step_heard, step_info, if_present, mail_value, step_waiting, handled_front, value_of, no_route}
-use Rattle.doc_model.specs.Journal.{DownReason, Entry, text_heard, mail_heard, handled, fell, overrun, Standing, process_step, fault_frames, down_reason}
-use Rattle.doc_model.proofs.Results.{On, on_eq}
+use Rattle.doc_model.specs.Process.{World, Route, Page, ProcessState, Turning, Outcome, Stepped, rendered_page, turning_view, joined_page, view_turn, component_at, with_owner, component_turn, frame_of, reply_to, rest_of, no_difference, push_frames, reply_diff, after_turn, after_join, step_join, step_component, step_event, step_patch, is_of, if_fresh, step_message, step_heard, step_info, if_present, mail_value, step_waiting, handled_front, value_of, no_route}
+use Rattle.doc_model.specs.Journal.{Entry, text_heard, mail_heard, handled, fell, overrun, process_step, fault_frames, down_reason}
+use Rattle.doc_model.proofs.Results.{On}
 use Rattle.doc_model.proofs.Handlers.{Shows, handlers_show}
 
 -- the same components, each with the containers that it had

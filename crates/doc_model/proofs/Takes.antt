@@ -1,6 +1,5 @@
 -- What a client makes of the frames since a join, one after the other.
-use Rattle.std.proofs.Common.{◌≡◌, ℕ, List, [], ◌∷◌, ◌++◌, Option, Some, None, Bool, true, false, if◌then◌else◌, refl, sym, ap, ◌∙◌, subst, codes}
-use Rattle.std.specs.Str.{bytes_eq}
+use Rattle.std.proofs.Common.{◌≡◌, ℕ, List, [], ◌∷◌, ◌++◌, Option, Some, None, false, if◌then◌else◌, refl, ap, ◌∙◌}
 use Rattle.diff_tree.specs.Client.{PageTree, PageDiff, merge_diff, judged, opened_tree}
 use Rattle.diff_tree.specs.Frame.{Frame, FrameBody, empty, rendered, changed, refusal, no_cids, push, closed, faulted, held_diff, client_takes, client_takes_all}
 use Rattle.doc_model.specs.Journal.{begins_page, since_join}
