@@ -58,7 +58,7 @@ module _ (w : World) where
   step_lean s e =
       by_kind w s.state (λ o fs. LeanBodies w s.state.page o fs)
       (λ fs q. all_quiet_lean s.state.page s.state.page fs q)
-      (λ fs q. all_plain_lean s.state.page None fs q)
+      (λ fs q n. all_plain_lean s.state.page None fs q)
       (λ m r o d. (ap (λ v. whole_tree (cut (w.template_of v)) o.page.met) (sym (view_of_join r.view o d)), tt))
       (λ p o u d n fs q. all_quiet_lean s.state.page (Some o.page) fs q)
       (λ p o u d f c. (subst (λ x. LeanBody w x (Some o.page) f.body) (sym u) (told_lean p o.page f.body c), tt))

@@ -1,7 +1,7 @@
 //! What the definitions keep: each law is the promise of a function that does nothing.
 
 ghost use Rattle.doc_model.specs.Effects.{Rest};
-ghost use Rattle.doc_model.specs.Headline.{BundleLinks, HandlersAreHonest, JournalIsLean, JournalShows, LawfulHolds, SessionGoesOn};
+ghost use Rattle.doc_model.specs.Headline.{AllFramesShow, BundleLinks, HandlersAreHonest, JournalIsLean, JournalShows, LawfulHolds, SessionGoesOn};
 ghost use Rattle.doc_model.specs.Laws.{HeldTreeShows, MergeLeanWhole, StaticsWeave, TakenWhole, WholeTreeShows};
 ghost use Rattle.doc_model.specs.Mark.{MarkIsAtRoot};
 ghost use Rattle.doc_model.specs.Run.{SessionShows, SettledShows};
@@ -81,6 +81,11 @@ pub fn handlers_are_honest()
 #[tactic(auto, using(crate::proofs::Journals::journal_shows))]
 pub fn journal_shows()
     ensures { JournalShows }
+{}
+
+/// From the beginning on no frame is bad for a client, and it holds the page exactly while the process is up.
+pub fn all_frames_show()
+    ensures { AllFramesShow }
 {}
 
 /// The frames of a lawful journal carry whole trees and lean diffs.
