@@ -2,7 +2,7 @@
 
 ghost use Rattle.doc_model.specs.Effects.{Rest};
 ghost use Rattle.doc_model.specs.Headline.{AllFramesShow, BundleLinks, HandlersAreHonest, JournalIsLean, JournalShows, LawfulHolds, SessionGoesOn};
-ghost use Rattle.doc_model.specs.Laws.{HeldTreeShows, MergeLeanWhole, StaticsWeave, TakenWhole, WholeTreeShows};
+ghost use Rattle.doc_model.specs.Laws.{HeldTreeShows, MergeLeanWhole, StaticsWeave, TakenWhole, UnchangedSendsNothing, WholeTreeShows};
 ghost use Rattle.doc_model.specs.Mark.{MarkIsAtRoot};
 ghost use Rattle.doc_model.specs.Run.{SessionShows, SettledShows};
 ghost use Rattle.doc_model.specs.Session.{FramesShow};
@@ -109,4 +109,10 @@ pub fn session_goes_on()
 #[tactic(auto, using(crate::proofs::Shows::statics_weave))]
 pub fn statics_weave()
     ensures { StaticsWeave }
+{}
+
+/// Where a rendering meets what the one before it met, the diff holds nothing.
+#[tactic(auto, using(crate::proofs::Idles::unchanged_sends_nothing))]
+pub fn unchanged_sends_nothing()
+    ensures { UnchangedSendsNothing }
 {}
