@@ -1,8 +1,8 @@
 -- Rows after a batch.
-use Rattle.std.proofs.Common.{◌≡◌, ◌⊎◌, inl, inr, ℕ, zero, suc, ◌-◌, List, [], ◌∷◌, ◌++◌, length, take, drop, Bool, true, false, if◌then◌else◌, refl, sym, ap, ◌∙◌, subst, true≢false}
+use Rattle.std.proofs.Common.{◌≡◌, ℕ, zero, suc, ◌-◌, List, [], ◌∷◌, ◌++◌, length, take, drop, Bool, true, false, if◌then◌else◌, refl, sym, ap, ◌∙◌, true≢false}
 use Rattle.std.specs.Str.{bytes_eq}
 use Rattle.std.proofs.lemmas.Slice.Eq.{bytes_eq-Decides}
-use Rattle.diff_tree.specs.Container.{Position, at_end, at_index, Limit, no_limit, first_few, last_few, Row, Insert, Batch, has, replaced, deleted, put_at, placed, pruned, inserted, all_deleted, all_inserted, apply_batch}
+use Rattle.diff_tree.specs.Container.{Position, at_end, at_index, Limit, no_limit, first_few, last_few, Row, Insert, has, replaced, deleted, put_at, placed, pruned, inserted, all_deleted, all_inserted}
 use Rattle.diff_tree.specs.Laws.{Apart, BatchKeepsApart, InsertsComeLast}
 
 abbrev Text : Type 0

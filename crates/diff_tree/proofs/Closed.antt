@@ -61,7 +61,7 @@ reached_same (suc k) zero f ns h c = absurd (omega arith)
 reached_same (suc k) (suc l) f ns h c = ap (λ ms. ns ++ ms) (reached_same k l f (inside f ns) (omega arith) (inside_closed k f ns c))
 
 -- what is reached from some numbers is reached from more
-among_split : (n : ℕ) (a b : List ℕ) → among n (a ++ b) ≡ true → (among n a ≡ true) ⊎ (among n b ≡ true)
+pub among_split : (n : ℕ) (a b : List ℕ) → among n (a ++ b) ≡ true → (among n a ≡ true) ⊎ (among n b ≡ true)
 among_split n [] b h = inr h
 among_split n (m ∷ a) b h = by_test (n == m) h (among_split n a b)
   where

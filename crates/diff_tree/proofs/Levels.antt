@@ -1,8 +1,6 @@
 -- The number of levels that a merge goes through does not matter where it is enough.
-use Rattle.std.proofs.Common.{◌≡◌, ◌⊎◌, inl, inr, ℕ, zero, suc, ◌≤◌, arith, List, [], ◌∷◌, ◌++◌, Option, Some, None, Bool, true, false, ◌&&◌, if◌then◌else◌, refl, sym, ap, ◌∙◌, subst, true≢false}
-use Rattle.diff_tree.specs.Tree.{Tree}
-use Rattle.diff_tree.specs.Container.{is_none}
-use Rattle.diff_tree.specs.Client.{PageTree, PageDiff, among, numbers_in, all_found, closed, inside, reached, only_among, dropped, judged, merge_parts, merge_diff, and_then, opened_tree}
+use Rattle.std.proofs.Common.{◌≡◌, ◌⊎◌, inl, inr, ℕ, zero, suc, ◌≤◌, arith, List, [], ◌∷◌, Option, Some, None, Bool, true, false, ◌&&◌, if◌then◌else◌, refl, ap, ◌∙◌}
+use Rattle.diff_tree.specs.Client.{PageTree, PageDiff, among, numbers_in, closed, only_among, dropped, judged, merge_parts, merge_diff, and_then, opened_tree}
 use Rattle.diff_tree.specs.Frame as fr
 use Rattle.diff_tree.specs.Frame.{Frame, FrameBody, held_diff, client_takes, client_takes_all}
 use Rattle.diff_tree.specs.Laws.{MergeIgnoresLevels, ClientIgnoresLevels}

@@ -1,12 +1,12 @@
 -- What a tree shows, and what it reaches, depends on the components that are reached alone.
-use Rattle.std.proofs.Common.{◌≡◌, ℕ, zero, suc, ◌≤◌, arith, List, [], ◌∷◌, ◌++◌, Option, Some, None, Bool, true, false, ◌&&◌, ◌==◌, if◌then◌else◌, refl, sym, ap, ◌∙◌, subst, true≢false}
+use Rattle.std.proofs.Common.{◌≡◌, ◌⊎◌, inl, inr, ℕ, zero, suc, ◌≤◌, arith, List, [], ◌∷◌, ◌++◌, Option, Some, None, Bool, true, false, ◌&&◌, ◌==◌, if◌then◌else◌, refl, sym, ap, ◌∙◌, subst, true≢false}
 use Rattle.std.proofs.lemmas.Bool.Decides.{Decides-eqb}
 use Rattle.diff_tree.specs.Container.{after, contents}
 use Rattle.diff_tree.specs.Tree.{Tree, text, number, node, list, stream, held, Trees, no_trees, tree, Rows, no_rows, row, Held, none_held, hold, weave, flat, show_value, show_values, show_rows, show_held}
-use Rattle.diff_tree.specs.Client.{PageTree, PageDiff, among, numbers_in, numbers_in_all, numbers_in_rows, numbers_in_held, all_found, closed, inside, reached, only_among, dropped, judged, merge_parts, merge_diff, and_then, look}
-use Rattle.diff_tree.specs.Laws.{ShowIgnoresLevels, MergeHoldsReached}
+use Rattle.diff_tree.specs.Client.{PageTree, among, numbers_in, numbers_in_all, numbers_in_rows, numbers_in_held, all_found, closed, inside, reached, only_among, dropped, judged, merge_parts, and_then, look}
+use Rattle.diff_tree.specs.Laws.{HoldsReached, ShowIgnoresLevels, MergeHoldsReached}
 use Rattle.diff_tree.proofs.Among.{both_true, among_itself, among_left, among_right, among_later}
-use Rattle.diff_tree.proofs.Closed.{reach_left, reach_right}
+use Rattle.diff_tree.proofs.Closed.{among_split, inside_closed, reach_left, reach_right}
 
 -- two looks that are the same at these numbers
 abbrev Agree : List ℕ → (ℕ → List ℕ) → (ℕ → List ℕ) → Type 0
@@ -119,28 +119,40 @@ only_none n live (m ∷ ns) h = by_live (among m live) refl (only_none n live ns
     by_live true e r = by_number e (n == m) refl r
     by_live false e r = r
 
-abbrev HoldsReached : ℕ → PageTree → Type 0
-HoldsReached k q =
-    (closed k q.component (numbers_in q.root) ≡ true) × ((n : ℕ) → among n (reached k q.component (numbers_in q.root)) ≡ false → (q.component n ≡ None) × (among n q.numbers ≡ false))
+-- what is reached is there
+reached_there : (k : ℕ) (f : ℕ → Option Tree) (ns : List ℕ) (n : ℕ) → closed k f ns ≡ true → among n (reached k f ns) ≡ true → (t : Tree) × (f n ≡ Some t)
+reached_there zero f ns n c h = absurd (true≢false (sym h))
+reached_there (suc k) f ns n c h = by_side (among_split n ns (reached k f (inside f ns)) h) (reached_there k f (inside f ns) n (inside_closed k f ns c))
+  where
+    by_side : (among n ns ≡ true) ⊎ (among n (reached k f (inside f ns)) ≡ true) → (among n (reached k f (inside f ns)) ≡ true → (t : Tree) × (f n ≡ Some t)) → (t : Tree) × (f n ≡ Some t)
+    by_side (inl e) r = let t = found_tree (λ t. closed k f (numbers_in t)) f ns n c e in (t.0, t.1)
+    by_side (inr e) r = r e
 
-dropped_holds : (k : ℕ) (m : PageTree) → closed k m.component (numbers_in m.root) ≡ true → HoldsReached k (dropped k m)
-dropped_holds k m c =
+abbrev Good : ℕ → PageTree → Type 0
+Good k q = (closed k q.component (numbers_in q.root) ≡ true) × ((n : ℕ) → HoldsReached k q n)
+
+dropped_good : (k : ℕ) (m : PageTree) → closed k m.component (numbers_in m.root) ≡ true → Good k (dropped k m)
+dropped_good k m c =
     let live = reached k m.component (numbers_in m.root) in
     let alike : Alike live m.component (dropped k m).component = λ n e. ap (λ b. if b then m.component n else None) e in
-    let same = reached_alike k m.component (dropped k m).component (numbers_in m.root) alike in (
-      closed_alike k m.component (dropped k m).component (numbers_in m.root) c alike,
-      λ n e. (let d : among n live ≡ false = sym (ap (among n) same) ∙ e in (ap (λ b. if b then m.component n else None) d, only_none n live m.numbers d)),
+    let same = reached_alike k m.component (dropped k m).component (numbers_in m.root) alike in
+    let c' = closed_alike k m.component (dropped k m).component (numbers_in m.root) c alike in (
+      c',
+      λ n. (
+        λ e. reached_there k (dropped k m).component (numbers_in m.root) n c' e,
+        λ e. (let d : among n live ≡ false = sym (ap (among n) same) ∙ e in (ap (λ b. if b then m.component n else None) d, only_none n live m.numbers d)),
+      ),
     )
 
 pub merge_holds_reached : MergeHoldsReached
 merge_holds_reached k p q d e = by_parts (merge_parts p d) e
   where
-    by_test : (m : PageTree) (b : Bool) → (closed k m.component (numbers_in m.root) && closed k m.component m.numbers) ≡ b → (if b then Some (dropped k m) else None) ≡ Some q → HoldsReached k q
+    by_test : (m : PageTree) (b : Bool) → (closed k m.component (numbers_in m.root) && closed k m.component m.numbers) ≡ b → (if b then Some (dropped k m) else None) ≡ Some q → Good k q
     by_test m true t x =
         let u : dropped k m ≡ q = cc in
-        subst (HoldsReached k) u (dropped_holds k m (both_true (closed k m.component (numbers_in m.root)) (closed k m.component m.numbers) t).0)
+        subst (Good k) u (dropped_good k m (both_true (closed k m.component (numbers_in m.root)) (closed k m.component m.numbers) t).0)
     by_test m false t x = cc
 
-    by_parts : (o : Option PageTree) → and_then o (judged k) ≡ Some q → HoldsReached k q
+    by_parts : (o : Option PageTree) → and_then o (judged k) ≡ Some q → Good k q
     by_parts None x = cc
     by_parts (Some m) x = by_test m (closed k m.component (numbers_in m.root) && closed k m.component m.numbers) refl x

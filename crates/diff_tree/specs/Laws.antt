@@ -1,6 +1,7 @@
 -- The laws of batches, merges and clients.
 use Rattle.std.specs.Prelude.{◌≡◌, ℕ, ◌≤◌, List, [], ◌∷◌, ◌++◌, Option, Some, None, true, false}
 use Rattle.diff_tree.specs.Container.{Row, Insert, no_limit, Batch, has, apply_batch}
+use Rattle.diff_tree.specs.Tree.{Tree}
 use Rattle.diff_tree.specs.Client.{PageTree, PageDiff, among, numbers_in, closed, reached, merge_diff, show_tree}
 use Rattle.diff_tree.specs.Frame.{Frame, client_takes_all}
 
@@ -17,10 +18,15 @@ BatchKeepsApart = (b : Batch (List ℕ)) (rs : List (Row (List ℕ))) → Apart 
 abbrev pub InsertsComeLast : Type 0
 InsertsComeLast = (b : Batch (List ℕ)) (i : Insert (List ℕ)) (rs : List (Row (List ℕ))) → i.limit ≡ no_limit → has i.id (apply_batch (record b { inserts = b.inserts ++ i ∷ [] }) rs) ≡ true
 
--- after a merge each component that the root reaches is held, and no other
+-- a component is held for each number that the root reaches, and for no other
+abbrev pub HoldsReached : ℕ → PageTree → ℕ → Type 0
+HoldsReached k q n =
+    (among n (reached k q.component (numbers_in q.root)) ≡ true → (t : Tree) × (q.component n ≡ Some t))
+    × (among n (reached k q.component (numbers_in q.root)) ≡ false → (q.component n ≡ None) × (among n q.numbers ≡ false))
+
+-- after a merge exactly the components that the root reaches are held, and no component reaches itself
 abbrev pub MergeHoldsReached : Type 0
-MergeHoldsReached = (k : ℕ) (p q : PageTree) (d : PageDiff) → merge_diff k p d ≡ Some q
-    → (closed k q.component (numbers_in q.root) ≡ true) × ((n : ℕ) → among n (reached k q.component (numbers_in q.root)) ≡ false → (q.component n ≡ None) × (among n q.numbers ≡ false))
+MergeHoldsReached = (k : ℕ) (p q : PageTree) (d : PageDiff) → merge_diff k p d ≡ Some q → (closed k q.component (numbers_in q.root) ≡ true) × ((n : ℕ) → HoldsReached k q n)
 
 -- a merge that is defined with some number of levels gives the same tree with more, and no other with fewer
 abbrev pub MergeIgnoresLevels : Type 0

@@ -1,15 +1,12 @@
 -- The numbers that stand in a held tree have components, level by level, and only components that were met are reached.
-use Rattle.std.proofs.Common.{◌≡◌, ℕ, zero, suc, ◌+◌, ◌≤◌, max, List, [], ◌∷◌, ◌++◌, map, Option, Some, None, Bool, true, false, ◌&&◌, ◌==◌, if◌then◌else◌, refl, sym, ap, ◌∙◌, subst, arith, true≢false, ◌⊎◌, inl, inr}
-use Rattle.std.proofs.lemmas.Bool.Decides.{Decides-eqb}
-use Rattle.diff_tree.specs.Container.{Row, Batch, after, is_none}
-use Rattle.diff_tree.specs.Tree.{Tree, text, number, node, list, held, Trees, no_trees, tree, Rows, no_rows, row, Held, row_list, opened, opened_all, opened_rows}
-use Rattle.diff_tree.specs.Client.{among, numbers_in, numbers_in_all, numbers_in_rows, numbers_in_held, all_found, closed, inside, reached}
+use Rattle.std.proofs.Common.{◌≡◌, ℕ, zero, suc, ◌+◌, ◌≤◌, List, [], ◌∷◌, ◌++◌, Option, Some, None, true, false, ◌&&◌, refl, ap, ◌∙◌, arith, ◌⊎◌, inl, inr}
+use Rattle.diff_tree.specs.Tree.{Tree, Trees, no_trees, tree, row_list, opened, opened_all, opened_rows}
+use Rattle.diff_tree.specs.Client.{numbers_in, numbers_in_all, numbers_in_rows, closed}
 use Rattle.diff_tree.proofs.Closed.{closed_append, closed_upto, none_closed}
 use Rattle.doc_model.specs.Trace.{Items, no_items, item, Item, met_text, met_nothing, met_branch, met_rows, met_call, met_slots, met_component, met_stream, ItemRows, no_item_rows, item_row, Slots, no_slots, slot_of}
-use Rattle.doc_model.specs.Whole.{whole_places, whole_place, whole_rows, whole_slots, rows_tree, slots_tree}
+use Rattle.doc_model.specs.Whole.{whole_places, whole_place, whole_rows, whole_slots, slots_tree}
 use Rattle.doc_model.specs.Holding.{Holds, HoldsItem, HoldsSlots}
-use Rattle.doc_model.specs.Components.{Part, parts, parts_of, parts_of_rows, parts_of_slots, part_numbers, AllOf, HoldsNode, HoldsOption, HoldsPart, depth, depth_of, depth_of_rows, depth_of_slots}
-use Rattle.doc_model.proofs.Sames.{both_true}
+use Rattle.doc_model.specs.Components.{Part, parts, parts_of, parts_of_rows, parts_of_slots, AllOf, HoldsNode, HoldsOption, HoldsPart, depth, depth_of, depth_of_rows, depth_of_slots}
 use Rattle.doc_model.proofs.Wholes.{Good, GoodItem, GoodRows, GoodSlots}
 use Rattle.doc_model.proofs.Numbers.{none_after, still_rows_none}
 use Rattle.doc_model.proofs.Origins.{all_left, all_right, all_weaker}

@@ -1,14 +1,13 @@
 -- Handlers write to assigns and batches alone: they keep every container.
-use Rattle.std.proofs.Common.{◌≡◌, ℕ, ℤ, pos, negsuc, zero, suc, List, [], ◌∷◌, ◌++◌, Ok, Err, Option, Some, None, Bool, true, false, if◌then◌else◌, nat_lt, length, refl, sym, ap, ◌∙◌, subst, codes}
+use Rattle.std.proofs.Common.{◌≡◌, ℕ, List, [], ◌∷◌, ◌++◌, Ok, Err, Option, Some, None, Bool, true, false, if◌then◌else◌, nat_lt, length, refl, ◌∙◌, subst}
 use Rattle.std.specs.Str.{bytes_eq}
-use Rattle.serde_json.specs.Data.{Data}
 use Rattle.serde_json.specs.Written.{compact_text}
 use Rattle.value_core.specs.Value.{Value, Assigns}
-use Rattle.value_core.specs.declared.raise.Raise.TheVariants.{BadArgument, InboxFull, View}
+use Rattle.value_core.specs.declared.raise.Raise.TheVariants.{BadArgument, InboxFull}
 use Rattle.diff_tree.specs.Container.{Batch}
 use Rattle.doc_model.specs.Environment.{Stream}
-use Rattle.doc_model.specs.Evaluation.{Res, then_do, on_res, or_raise}
-use Rattle.doc_model.specs.Walk.{Owner, Views}
+use Rattle.doc_model.specs.Evaluation.{then_do, on_res}
+use Rattle.doc_model.specs.Walk.{Owner}
 use Rattle.doc_model.specs.Table.{Honest}
 use Rattle.view_api.specs.Effect.{Effect, assign_to, stream_insert, stream_delete, stream_reset, subscribe, unsubscribe, publish, send_self, push_event}
 use Rattle.view_api.specs.Meaning.{ViewMeaning}

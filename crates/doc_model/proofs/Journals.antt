@@ -1,26 +1,25 @@
 -- The headline: the frames of a journal since the latest join merge and show the page.
-use Rattle.std.proofs.Common.{◌≡◌, ℕ, ◌+◌, ◌≤◌, arith, List, [], ◌∷◌, ◌++◌, Ok, Err, Option, Some, None, Bool, true, false, refl, sym, ap, ◌∙◌, subst, true≢false}
+use Rattle.std.proofs.Common.{◌≡◌, ℕ, ◌+◌, ◌≤◌, arith, List, [], ◌∷◌, Ok, Err, Option, Some, None, true, refl, sym, ap, ◌∙◌, subst, true≢false, ◌⊎◌, inl, inr, append-nil, append_assoc, ◌++◌}
 use Rattle.ast_core.specs.Syntax.{Nodes}
 use Rattle.ast_core.specs.Places.{cut}
-use Rattle.value_core.specs.Value.{Assigns}
 use Rattle.diff_tree.specs.Container.{is_none}
 use Rattle.diff_tree.specs.Tree.{Change}
 use Rattle.diff_tree.specs.Client.{PageTree, PageDiff, judged, merge_diff, opened_tree, show_tree}
 use Rattle.diff_tree.specs.Spelling.{Pushed}
-use Rattle.diff_tree.specs.Frame.{Frame, FrameBody, rendered, changed, push, client_takes_all}
+use Rattle.diff_tree.specs.Frame.{Frame, rendered, client_takes, client_takes_all}
 use Rattle.doc_model.specs.Environment.{Stream, Component, Env}
 use Rattle.doc_model.specs.Evaluation.{Res, on_res}
 use Rattle.doc_model.specs.Trace.{Items}
 use Rattle.doc_model.specs.Tracing.{trace}
 use Rattle.doc_model.specs.FullRendering.{full_render}
 use Rattle.doc_model.specs.Lean.{is_empty}
-use Rattle.doc_model.specs.Left.{Containers, Based}
+use Rattle.doc_model.specs.Left.{Based}
 use Rattle.doc_model.specs.Once.{left, left_to}
 use Rattle.doc_model.specs.Components.{parts, Distinct, depth, HeldTree, whole_tree, lean_diff}
 use Rattle.doc_model.specs.Laws.{Gives}
 use Rattle.doc_model.specs.Table.{IsTable, SettledAs}
 use Rattle.doc_model.specs.Walk.{Walk, in_state, render_state}
-use Rattle.doc_model.specs.Run.{Turn, Joins, settled_stream, settled_components}
+use Rattle.doc_model.specs.Run.{Turn, settled_stream, settled_components}
 use Rattle.doc_model.specs.Effects.{Rest, views_of}
 use Rattle.wire_v2.specs.Message.{MessageHead}
 use Rattle.doc_model.specs.Process.{World, Route, Page, Turning, Outcome, scope_of_view, levels, page_text, rendered_page, no_difference, reply_to}
@@ -37,8 +36,8 @@ use Rattle.doc_model.proofs.Judged.{merge_lean_whole, taken_whole}
 use Rattle.doc_model.proofs.Settles.{settled_shows}
 use Rattle.doc_model.proofs.Runs.{traced_of, begins}
 use Rattle.doc_model.proofs.Handlers.{honest}
-use Rattle.doc_model.proofs.StepKinds.{Alike, Rerenders, Renders, AllQuiet, AllPlain, Carries, by_kind}
-use Rattle.doc_model.proofs.Takes.{Holding, quiet_all, diff_held, whole_held, since_append}
+use Rattle.doc_model.proofs.StepKinds.{Alike, Rerenders, Renders, AllQuiet, Empties, Carries, by_kind}
+use Rattle.doc_model.proofs.Takes.{Held, Holding, one_more, quiet_all, quiet_from, diff_after, diff_held, whole_after, whole_held, since_append, takes_append}
 use Rattle.doc_model.proofs.Unchanged.{unchanged_whole}
 
 -- a page as its last rendering left it, and a tree that is whole for it
@@ -181,7 +180,7 @@ drawn w v j t s o P h e = by_result (render_state (views_of w.views) w.site leve
     by_result (Ok x) d q = let u : outcome w v j t s x ≡ o = cc in subst P (ap (λ z. z.page) u) (h x.0 x.1 d)
     by_result (Err x) d q = cc
 
-abbrev client : ℕ
+abbrev pub client : ℕ
 client = levels + levels
 
 -- a client of the frames so far holds the page that is up
@@ -198,11 +197,13 @@ no_components d [] h = let b = both_true (is_empty d.root) (is_none d.components
 no_components d (e ∷ es) h = absurd (true≢false (sym h))
 
 module _ (w : World) (linked : IsLinked w) where
+  first_page : (v : ℕ) (o : Outcome) → Renders w v o → Gives (Fine w levels o.page) (judged client (opened_tree (whole_tree (cut (w.template_of v)) o.page.met)))
+  first_page v o r =
+      drawn w v r.join_reference r.topic r.before o (λ p. Gives (Fine w levels p) (judged client (opened_tree (whole_tree (cut (w.template_of v)) p.met))))
+      (λ is x d. first_fine w linked levels v r.join_reference r.topic r.before is x d r.no_components r.view_shows) r.rendered
+
   joins : (v : ℕ) (o : Outcome) (so_far : List Frame) (f : Frame) → Renders w v o → f.body ≡ rendered (whole_tree (cut (w.template_of v)) o.page.met) o.rest.pushed → Stands w (Some o.page) (since_join so_far (f ∷ []))
-  joins v o so_far f r e =
-      whole_held client (Fine w levels o.page) so_far f (whole_tree (cut (w.template_of v)) o.page.met) o.rest.pushed e
-      (drawn w v r.join_reference r.topic r.before o (λ p. Gives (Fine w levels p) (judged client (opened_tree (whole_tree (cut (w.template_of v)) p.met))))
-      (λ is x d. first_fine w linked levels v r.join_reference r.topic r.before is x d r.no_components r.view_shows) r.rendered)
+  joins v o so_far f r e = whole_held client (Fine w levels o.page) so_far f (whole_tree (cut (w.template_of v)) o.page.met) o.rest.pushed e (first_page v o r)
 
   merges : (p : Page) (q : PageTree) (o : Outcome) → Fine w levels p q → Rerenders w p o → Gives (Fine w levels o.page) (merge_diff client q (lean_diff p.met o.page.met))
   merges p q o fine r =
@@ -229,7 +230,7 @@ module _ (w : World) (linked : IsLinked w) where
   stands_after s so_far e h =
       by_kind w s.state (λ o fs. Stands w o (since_join so_far fs))
       (λ fs q. keeps_quiet s.state.page so_far fs q h)
-      (λ fs q. tt)
+      (λ fs q n. tt)
       (λ m r o d. joins r.view o so_far (reply_to m (rendered (whole_tree (cut (w.template_of r.view)) o.page.met) o.rest.pushed)) d refl)
       (λ p o u d n fs q. stays_silent p o so_far fs (subst (λ x. Stands w x so_far) u h) d n q)
       (λ p o u d f c. tells p o so_far f (subst (λ x. Stands w x so_far) u h) d c)
@@ -248,3 +249,61 @@ module _ (w : World) (linked : IsLinked w) where
 
 pub journal_shows : JournalShows
 journal_shows w es linked = shows w linked es (replay_from w begin_standing es).state.page (stands_all w linked begin_standing [] es tt)
+
+-- a client of all frames
+abbrev Follows : World → Option Page → List Frame → Type 0
+Follows w None fs = client_takes_all client None fs ≡ Some None
+Follows w (Some p) fs = Holding client (Fine w levels p) fs
+
+module _ (w : World) (linked : IsLinked w) where
+  -- what it holds, in both cases
+  held_of : (o : Option Page) (fs : List Frame) → Follows w o fs → (h : Held) × (client_takes_all client None fs ≡ Some h)
+  held_of None fs h = (None, h)
+  held_of (Some p) fs h = (Some h.0, h.1)
+
+  one_frame : (fs : List Frame) (h : Held) (f : Frame) (P : PageTree → Type 0) → client_takes_all client None fs ≡ Some h → (q : PageTree) × (client_takes client h f.body ≡ Some (Some q)) × P q → Holding client P (fs ++ f ∷ [])
+  one_frame fs h f P e r = (r.0, takes_append client None h fs (f ∷ []) e ∙ one_more (client_takes client h f.body) ∙ r.1, r.2)
+
+  stays_quiet : (o : Option Page) (fs gs : List Frame) → AllQuiet gs → Follows w o fs → Follows w o (fs ++ gs)
+  stays_quiet None fs gs q h = takes_append client None None fs gs h ∙ quiet_from client None gs q
+  stays_quiet (Some p) fs gs q h = (h.0, takes_append client None (Some h.0) fs gs h.1 ∙ quiet_from client (Some h.0) gs q, h.2)
+
+  goes_down : (o : Option Page) (fs gs : List Frame) → ((gs ≡ []) × (o ≡ None)) ⊎ Empties gs → Follows w o fs → Follows w None (fs ++ gs)
+  goes_down o fs gs (inl n) h = let x : Follows w None fs = subst (λ y. Follows w y fs) n.1 h in takes_append client None None fs gs x ∙ ap (client_takes_all client None) n.0
+  goes_down o fs gs (inr e) h = let x = held_of o fs h in takes_append client None x.0 fs gs x.1 ∙ e client x.0
+
+  begins_page : (v : ℕ) (o : Outcome) (s : Option Page) (fs : List Frame) (f : Frame) → Renders w v o → f.body ≡ rendered (whole_tree (cut (w.template_of v)) o.page.met) o.rest.pushed → Follows w s fs → Follows w (Some o.page) (fs ++ f ∷ [])
+  begins_page v o s fs f r e h =
+      let x = held_of s fs h in
+      one_frame fs x.0 f (Fine w levels o.page) x.1 (whole_after client (Fine w levels o.page) x.0 f (whole_tree (cut (w.template_of v)) o.page.met) o.rest.pushed e (first_page w linked v o r))
+
+  changes_page : (p : Page) (o : Outcome) (fs : List Frame) (f : Frame) → Follows w (Some p) fs → Rerenders w p o → Carries (lean_diff p.met o.page.met) f.body → Follows w (Some o.page) (fs ++ f ∷ [])
+  changes_page p o fs f h r c = one_frame fs (Some h.0) f (Fine w levels o.page) h.1 (diff_after client (Fine w levels o.page) h.0 (lean_diff p.met o.page.met) f c (merges w linked p h.0 o h.2 r))
+
+  keeps_page : (p : Page) (o : Outcome) (fs gs : List Frame) → Follows w (Some p) fs → Rerenders w p o → no_difference (lean_diff p.met o.page.met) o.rest.pushed ≡ true → AllQuiet gs → Follows w (Some o.page) (fs ++ gs)
+  keeps_page p o fs gs h r n q =
+      let e = no_components (lean_diff p.met o.page.met) o.rest.pushed n in
+      (h.0, takes_append client None (Some h.0) fs gs h.1 ∙ quiet_from client (Some h.0) gs q, silent_fine w linked levels p o.page h.0 (same_view w linked p o r) h.2 (merges w linked p h.0 o h.2 r) e.0 e.1)
+
+  follows_after : (s : Standing) (fs : List Frame) (e : Entry) → Follows w s.state.page fs → Follows w (process_step w s e).state.page (fs ++ (process_step w s e).frames)
+  follows_after s fs e h =
+      by_kind w s.state (λ o gs. Follows w o (fs ++ gs))
+      (λ gs q. stays_quiet s.state.page fs gs q h)
+      (λ gs q n. goes_down s.state.page fs gs n h)
+      (λ m r o d. begins_page r.view o s.state.page fs (reply_to m (rendered (whole_tree (cut (w.template_of r.view)) o.page.met) o.rest.pushed)) d refl h)
+      (λ p o u d n gs q. keeps_page p o fs gs (subst (λ x. Follows w x fs) u h) d n q)
+      (λ p o u d f c. changes_page p o fs f (subst (λ x. Follows w x fs) u h) d c)
+      s.inbox e
+
+  follows_all : (s : Standing) (fs : List Frame) (es : List Entry) → Follows w s.state.page fs → Follows w (replay_from w s es).state.page (fs ++ frames_from w s es)
+  follows_all s fs [] h = subst (Follows w s.state.page) (sym (append-nil fs)) h
+  follows_all s fs (e ∷ es) h =
+      subst (Follows w (replay_from w (after_step (process_step w s e)) es).state.page) (append_assoc fs (process_step w s e).frames (frames_from w (after_step (process_step w s e)) es))
+      (follows_all (after_step (process_step w s e)) (fs ++ (process_step w s e).frames) es (follows_after s fs e h))
+
+  follows_shows : (o : Option Page) (fs : List Frame) → Follows w o fs → ClientFollows w o (client_takes_all client None fs)
+  follows_shows None fs h = subst (ClientFollows w None) (sym h) tt
+  follows_shows (Some p) fs h = subst (ClientFollows w (Some p)) (sym h.1) (h.2.holds, (depth p.met, fine_shows w linked levels p h.0 h.2))
+
+pub all_frames_show : AllFramesShow
+all_frames_show w es linked = (client, follows_shows w linked (replay_from w begin_standing es).state.page (frames_from w begin_standing es) (follows_all w linked begin_standing [] es refl))

@@ -3,14 +3,13 @@ use Rattle.std.proofs.Common.{◌≡◌, ℕ, ◌+◌, arith, List, [], ◌∷�
 use Rattle.std.specs.Str.{bytes_eq}
 use Rattle.ast_core.specs.Syntax.{Template}
 use Rattle.ast_core.specs.Places.{cut, streams_in, Once}
-use Rattle.diff_tree.specs.Client.{PageDiff}
 use Rattle.diff_tree.specs.Frame.{Frame, FrameBody, empty, rendered, changed, refusal, no_cids, push, closed, faulted}
 use Rattle.doc_model.specs.Bundle.{template_in, root_in}
 use Rattle.doc_model.specs.Components.{whole_tree, lean_diff}
-use Rattle.doc_model.specs.Process.{World, Page, ProcessState, Outcome}
+use Rattle.doc_model.specs.Process.{World, Page, Outcome}
 use Rattle.doc_model.specs.Journal.{Entry, Standing, begin_standing, process_step, after_step, replay_from, frames_of_entry, spelled, written_frames, entry_size, journal_size, Allowed, LeanBody, LeanBodies, LawfulFrom, LeanFrom, SessionHolds}
 use Rattle.doc_model.specs.Headline.{EachOnce, BundleLinks, JournalIsLean, LawfulHolds, SessionGoesOn}
-use Rattle.doc_model.proofs.StepKinds.{Renders, Rerenders, IsQuiet, AllQuiet, IsPlain, AllPlain, Carries, by_kind}
+use Rattle.doc_model.proofs.StepKinds.{Renders, IsQuiet, AllQuiet, IsPlain, AllPlain, Carries, by_kind}
 use Rattle.doc_model.proofs.Journals.{drawn, journal_shows}
 
 module _ (w : World) where
@@ -59,7 +58,7 @@ module _ (w : World) where
   step_lean s e =
       by_kind w s.state (λ o fs. LeanBodies w s.state.page o fs)
       (λ fs q. all_quiet_lean s.state.page s.state.page fs q)
-      (λ fs q. all_plain_lean s.state.page None fs q)
+      (λ fs q n. all_plain_lean s.state.page None fs q)
       (λ m r o d. (ap (λ v. whole_tree (cut (w.template_of v)) o.page.met) (sym (view_of_join r.view o d)), tt))
       (λ p o u d n fs q. all_quiet_lean s.state.page (Some o.page) fs q)
       (λ p o u d f c. (subst (λ x. LeanBody w x (Some o.page) f.body) (sym u) (told_lean p o.page f.body c), tt))

@@ -1,13 +1,13 @@
 -- From the root exactly the components that were met are reached.
-use Rattle.std.proofs.Common.{◌≡◌, ℕ, zero, suc, ◌+◌, ◌≤◌, List, [], ◌∷◌, ◌++◌, Option, Some, None, Bool, true, false, ◌&&◌, ◌==◌, if◌then◌else◌, refl, sym, ap, ◌∙◌, subst, arith, true≢false, ◌⊎◌, inl, inr, append_assoc}
+use Rattle.std.proofs.Common.{◌≡◌, ℕ, zero, suc, ◌≤◌, List, [], ◌∷◌, ◌++◌, Option, Some, None, Bool, true, false, ◌==◌, if◌then◌else◌, refl, sym, ap, ◌∙◌, subst, arith, true≢false}
 use Rattle.std.proofs.lemmas.Bool.Decides.{Decides-eqb}
 use Rattle.diff_tree.specs.Tree.{Tree}
 use Rattle.diff_tree.specs.Client.{among, numbers_in, inside, reached, only_among}
 use Rattle.diff_tree.proofs.Among.{among_left, among_right}
 use Rattle.diff_tree.proofs.Closed.{reach_left, reach_right}
 use Rattle.doc_model.specs.Trace.{Items, no_items, item, Item, met_text, met_nothing, met_branch, met_rows, met_call, met_slots, met_component, met_stream, ItemRows, no_item_rows, item_row, Slots, no_slots, slot_of}
-use Rattle.doc_model.specs.Components.{Part, parts, parts_of, parts_of_rows, parts_of_slots, part_numbers, AllAmong, AllOf, HoldsNode, depth, depth_of, depth_of_rows, depth_of_slots}
-use Rattle.doc_model.proofs.Wholes.{Good, GoodItem, GoodRows, GoodSlots}
+use Rattle.doc_model.specs.Components.{Part, parts, parts_of, parts_of_rows, parts_of_slots, part_numbers, AllAmong, AllOf, depth, depth_of, depth_of_rows, depth_of_slots}
+use Rattle.doc_model.proofs.Wholes.{Good}
 use Rattle.doc_model.proofs.Origins.{all_left, all_right, all_weaker}
 use Rattle.doc_model.proofs.Closed.{met, met_at, met_in_rows, met_in_slots, HeldAt, node_numbers, all_append}
 

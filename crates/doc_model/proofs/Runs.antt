@@ -9,7 +9,7 @@ use Rattle.doc_model.specs.Left.{Based, Unused}
 use Rattle.ast_core.specs.Places.{Once, streams_in, cut}
 use Rattle.doc_model.specs.Once.{left, left_to}
 use Rattle.doc_model.specs.Laws.{Gives}
-use Rattle.doc_model.specs.Components.{HeldTree, whole_tree, depth, Part, parts, Distinct, Lives}
+use Rattle.doc_model.specs.Components.{HeldTree, depth, Part, parts, Distinct, Lives}
 use Rattle.diff_tree.specs.Client.{show_tree}
 use Rattle.doc_model.specs.Scopes.{Site}
 use Rattle.doc_model.specs.FullRendering.{full_render}

@@ -1,14 +1,14 @@
 -- What a step can be: nothing is rendered, the process goes down, a first rendering, or a rendering that follows.
-use Rattle.std.proofs.Common.{◌≡◌, ℕ, suc, List, [], ◌∷◌, ◌++◌, Ok, Err, Option, Some, None, Bool, true, false, ◌==◌, ◌&&◌, if◌then◌else◌, refl, sym, ap, ◌∙◌, subst, codes}
+use Rattle.std.proofs.Common.{◌≡◌, ◌⊎◌, inl, inr, ℕ, suc, List, [], ◌∷◌, Ok, Err, Option, Some, None, Bool, true, false, ◌==◌, if◌then◌else◌, refl, sym, ap, ◌∙◌, subst, codes}
 use Rattle.std.proofs.lemmas.Bool.Decides.{Decides-eqb}
 use Rattle.std.specs.Str.{bytes_eq}
 use Rattle.value_core.specs.Value.{Value, no_assigns}
 use Rattle.ast_core.specs.Places.{cut}
-use Rattle.diff_tree.specs.Client.{PageDiff}
+use Rattle.diff_tree.specs.Client.{PageTree, PageDiff}
 use Rattle.diff_tree.specs.Spelling.{Pushed}
-use Rattle.diff_tree.specs.Frame.{Frame, FrameBody, empty, rendered, changed, refusal, no_cids, push, closed, faulted}
+use Rattle.diff_tree.specs.Frame.{Frame, FrameBody, empty, rendered, changed, refusal, no_cids, push, client_takes_all}
 use Rattle.doc_model.specs.Environment.{Component}
-use Rattle.doc_model.specs.Evaluation.{Res, then_do, on_res}
+use Rattle.doc_model.specs.Evaluation.{Res, then_do}
 use Rattle.doc_model.specs.Components.{whole_tree, lean_diff}
 use Rattle.doc_model.specs.Walk.{Owner, owner_of, component_with}
 use Rattle.view_api.specs.Effect.{Effect}
@@ -131,6 +131,10 @@ abbrev pub AllPlain : List Frame → Type 0
 AllPlain [] = Unit {0}
 AllPlain (f ∷ fs) = IsPlain f.body × AllPlain fs
 
+-- after these frames no client holds a page
+abbrev pub Empties : List Frame → Type 0
+Empties fs = (k : ℕ) (h : Option PageTree) → client_takes_all k h fs ≡ Some None
+
 -- a frame with this diff
 abbrev pub Carries : PageDiff → FrameBody → Type 0
 Carries d (changed e es) = e ≡ d
@@ -139,7 +143,7 @@ Carries d _ = ⊥
 
 module _ (w : World) (s : ProcessState) (Q : Option Page → List Frame → Type 0)
     (still : (fs : List Frame) → AllQuiet fs → Q s.page fs)
-    (down : (fs : List Frame) → AllPlain fs → Q None fs)
+    (down : (fs : List Frame) → AllPlain fs → ((fs ≡ []) × (s.page ≡ None)) ⊎ Empties fs → Q None fs)
     (joined : (h : MessageHead) (r : Route) (o : Outcome) → Renders w r.view o → Q (Some o.page) (reply_to h (rendered (whole_tree (cut (w.template_of r.view)) o.page.met) o.rest.pushed) ∷ []))
     (silent : (p : Page) (o : Outcome) → s.page ≡ Some p → Rerenders w p o → no_difference (lean_diff p.met o.page.met) o.rest.pushed ≡ true → (fs : List Frame) → AllQuiet fs → Q (Some o.page) fs)
     (told : (p : Page) (o : Outcome) → s.page ≡ Some p → Rerenders w p o → (f : Frame) → Carries (lean_diff p.met o.page.met) f.body → Q (Some o.page) (f ∷ [])) where
@@ -165,7 +169,7 @@ module _ (w : World) (s : ProcessState) (Q : Option Page → List Frame → Type
       by_test false t = told p o e r (frame_of q.join_reference None q.topic (push (lean_diff p.met o.page.met) o.rest.pushed)) refl
 
   turn : (p : Page) (inbox : List Waiting) (frames : PageDiff → List Pushed → List Frame) (r : Res Outcome) → s.page ≡ Some p → Sends frames → ((o : Outcome) → r ≡ Ok o → Rerenders w p o) → Result (after_turn s p inbox frames r)
-  turn p inbox frames (Err x) e send h = down _ (tt, tt)
+  turn p inbox frames (Err x) e send h = down _ (tt, tt) (inr (λ k h. refl))
   turn p inbox frames (Ok o) e send h = send p o e (h o refl)
 
   on_join : (inbox : List Waiting) (h : MessageHead) (o : Option Route) → Result (step_join w s inbox h o)
@@ -173,7 +177,7 @@ module _ (w : World) (s : ProcessState) (Q : Option Page → List Frame → Type
   on_join inbox h (Some r) = by_page (joined_page w r h.join_reference h.topic (rest_of (suc s.generation) inbox)) refl
     where
       by_page : (q : Res Outcome) → joined_page w r h.join_reference h.topic (rest_of (suc s.generation) inbox) ≡ q → Result (after_join w (suc s.generation) h inbox r q)
-      by_page (Err x) e = down (reply_to h (refusal (codes "join crashed")) ∷ []) (tt, tt)
+      by_page (Err x) e = down (reply_to h (refusal (codes "join crashed")) ∷ []) (tt, tt) (inr (λ k m. refl))
       by_page (Ok o) e = joined h r o (join_renders w r h.join_reference h.topic (rest_of (suc s.generation) inbox) o e)
 
   on_event : (p : Page) (inbox : List Waiting) (h : MessageHead) (name : List ℕ) (v : Value) (n : ℕ) → s.page ≡ Some p → Result (step_event w s p inbox h name v n)
@@ -227,7 +231,7 @@ module _ (w : World) (s : ProcessState) (Q : Option Page → List Frame → Type
   on_message : (inbox : List Waiting) (m : Message) → Result (step_message w s inbox m)
   on_message inbox (beat h) = still _ (tt, tt)
   on_message inbox (join h url) = on_join inbox h (w.route url)
-  on_message inbox (leave h) = fresh inbox h _ (λ p e. down _ (tt, (tt, tt)))
+  on_message inbox (leave h) = fresh inbox h _ (λ p e. down _ (tt, (tt, tt)) (inr (λ k m. refl)))
   on_message inbox (event h name v n) = fresh inbox h _ (λ p e. on_event p inbox h name (value_of w v) n e)
   on_message inbox (patch h url) = fresh inbox h _ (λ p e. on_patch p inbox h (w.route url) e)
   on_message inbox (will_destroy h) = fresh inbox h _ (λ p e. still (reply_to h empty ∷ []) (tt, tt))
@@ -251,13 +255,13 @@ module _ (w : World) (s : ProcessState) (Q : Option Page → List Frame → Type
   on_front [] = still [] tt
   on_front (m ∷ inbox) = on_waiting inbox m
 
-  faults_plain : (o : Option Page) (reason : Option (List ℕ)) → AllPlain (fault_frames o reason)
-  faults_plain None reason = tt
-  faults_plain (Some p) reason = (tt, tt)
+  faults : (reason : Option (List ℕ)) (o : Option Page) → s.page ≡ o → Q None (fault_frames o reason)
+  faults reason None e = down [] tt (inl (refl, e))
+  faults reason (Some p) e = down (fault_frames (Some p) reason) (tt, tt) (inr (λ k h. refl))
 
   pub by_kind : (inbox : List Waiting) (e : Entry) → Result (process_step w (record { state = s; inbox = inbox }) e)
   by_kind inbox (text_heard t) = still [] tt
   by_kind inbox (mail_heard t g v) = still [] tt
   by_kind inbox (handled fs) = on_front inbox
-  by_kind inbox (fell fs) = down _ (faults_plain s.page (Some (codes "out of memory")))
-  by_kind inbox (overrun why fs) = down _ (faults_plain s.page (Some (down_reason why)))
+  by_kind inbox (fell fs) = faults (Some (codes "out of memory")) s.page refl
+  by_kind inbox (overrun why fs) = faults (Some (down_reason why)) s.page refl

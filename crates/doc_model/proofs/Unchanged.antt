@@ -1,14 +1,14 @@
 -- A diff that holds nothing, which is not sent: the tree that a client holds is whole for the new state as it is.
-use Rattle.std.proofs.Common.{◌≡◌, ℕ, ◌≤◌, List, [], ◌∷◌, Option, Some, None, option_map, Ok, Bool, true, false, ◌&&◌, if◌then◌else◌, refl, sym, ap, ◌∙◌, subst, true≢false}
-use Rattle.diff_tree.specs.Tree.{Tree, node, Trees, no_trees, tree, Change, Changes, no_changes, skip, change, inner, merge_change, merge_changes}
+use Rattle.std.proofs.Common.{◌≡◌, ℕ, ◌≤◌, List, [], Option, Some, None, option_map, Bool, true, false, ◌&&◌, if◌then◌else◌, refl, sym, ap, ◌∙◌, subst, true≢false}
+use Rattle.diff_tree.specs.Tree.{Tree, node, Trees, no_trees, tree, Changes, no_changes, skip, change, inner, merge_change, merge_changes}
 use Rattle.diff_tree.specs.Client.{PageTree, PageDiff, among, numbers_in, closed, reached, dropped, judged, with_numbers, merge_components, merge_parts, merge_diff, and_then}
 use Rattle.doc_model.specs.Lean.{is_empty}
 use Rattle.doc_model.specs.Laws.{Gives}
 use Rattle.doc_model.specs.Trace.{Items}
-use Rattle.doc_model.specs.Components.{Part, parts, part_numbers, AllAmong, AllOf, HoldsNode, HoldsOption, HoldsPart, HoldsNoOther, HeldTree, depth}
+use Rattle.doc_model.specs.Components.{Part, parts, part_numbers, AllOf, HoldsOption, HoldsPart, HoldsNoOther, HeldTree, depth}
 use Rattle.doc_model.proofs.Wholes.{Good}
 use Rattle.doc_model.proofs.Origins.{all_weaker, all_both}
-use Rattle.doc_model.proofs.Closed.{met, node_numbers, held_at}
+use Rattle.doc_model.proofs.Closed.{node_numbers, held_at}
 use Rattle.doc_model.proofs.Reached.{There, parts_reached, at_number, all_among_weaker}
 
 -- what comes out is what was there

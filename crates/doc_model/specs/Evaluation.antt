@@ -1,8 +1,8 @@
 -- The value of an expression, or the raise that stands in its place.
-use Rattle.std.specs.Prelude.{ℕ, suc, ℤ, pos, negsuc, ◌+ℤ◌, ◌-ℤ◌, ◌*ℤ◌, neg_ℤ, int_lt, int_div, int_rem, ◌==◌, List, [], ◌∷◌, ◌++◌, Option, Some, None, Result, Ok, Err, Bool, true, false, not, if◌then◌else◌, codes, ◌^◌, nat_lt}
+use Rattle.std.specs.Prelude.{ℕ, suc, ℤ, pos, negsuc, ◌+ℤ◌, ◌-ℤ◌, ◌*ℤ◌, neg_ℤ, int_lt, int_div, int_rem, ◌==◌, List, [], ◌++◌, Option, Some, None, Result, Ok, Err, Bool, true, false, not, if◌then◌else◌, ◌^◌, nat_lt}
 use Rattle.std.specs.Ordering.{nat_cmp, int_eq, match_ordering}
 use Rattle.std.specs.Cmp.Lexicographic.{slice_cmp}
-use Rattle.value_core.specs.Value.{Value, nil, boolean, whole_number, text, atom, list, tuple, map_of, slot, Values, no_values, value, Assigns, no_assigns, assign, same}
+use Rattle.value_core.specs.Value.{Value, nil, boolean, whole_number, text, atom, list, tuple, map_of, Values, no_values, value, Assigns, no_assigns, assign, same}
 use Rattle.value_core.specs.Print.{text_of_value}
 use Rattle.value_core.specs.Nesting.{depth_of}
 use Rattle.value_core.specs.declared.raise.Raise.{Raise}

@@ -3,11 +3,10 @@ use Rattle.std.specs.Prelude.{◌≡◌, ℕ, ◌+◌, ◌<◌, ◌≤◌, List,
 use Rattle.serde_json.specs.Written.{compact_text}
 use Rattle.ast_core.specs.Places.{cut}
 use Rattle.diff_tree.specs.Client.{PageTree, PageDiff, show_tree}
-use Rattle.diff_tree.specs.Spelling.{Pushed}
 use Rattle.diff_tree.specs.Frame.{Frame, FrameBody, rendered, changed, push, frame_json, client_takes_all}
 use Rattle.doc_model.specs.Components.{HeldTree, whole_tree, lean_diff}
-use Rattle.doc_model.specs.Effects.{Action, Waiting, heard, mailed, sent, inbox_limit}
-use Rattle.doc_model.specs.Process.{World, Page, ProcessState, begin_state, page_text, Stepped, handled_front, goes_down, fault_frame, frame_of}
+use Rattle.doc_model.specs.Effects.{Waiting, heard, mailed, inbox_limit}
+use Rattle.doc_model.specs.Process.{World, Page, ProcessState, begin_state, page_text, Stepped, handled_front, goes_down, fault_frame}
 
 -- why a process is put down: a limit, or want of memory
 pub data DownReason : Type 0 where

@@ -1,8 +1,8 @@
 //! What the definitions keep: each law is the promise of a function that does nothing.
 
 ghost use Rattle.doc_model.specs.Effects.{Rest};
-ghost use Rattle.doc_model.specs.Headline.{BundleLinks, JournalIsLean, JournalShows, LawfulHolds, SessionGoesOn};
-ghost use Rattle.doc_model.specs.Laws.{HeldTreeShows, MergeLeanWhole, StaticsWeave, TakenWhole, WholeTreeShows};
+ghost use Rattle.doc_model.specs.Headline.{AllFramesShow, BundleLinks, HandlersAreHonest, JournalIsLean, JournalShows, LawfulHolds, SessionGoesOn};
+ghost use Rattle.doc_model.specs.Laws.{HeldTreeShows, MergeLeanWhole, StaticsWeave, TakenWhole, UnchangedSendsNothing, WholeTreeShows};
 ghost use Rattle.doc_model.specs.Mark.{MarkIsAtRoot};
 ghost use Rattle.doc_model.specs.Run.{SessionShows, SettledShows};
 ghost use Rattle.doc_model.specs.Session.{FramesShow};
@@ -71,11 +71,21 @@ pub fn bundle_links()
     ensures { BundleLinks }
 {}
 
+/// The handlers of a process write to assigns and batches alone, and change no container.
+pub fn handlers_are_honest()
+    ensures { HandlersAreHonest }
+{}
+
 /// After any entries, lawful or not, the frames since the latest join merge and show the page, where
 /// no stream has two places in one template.
 #[tactic(auto, using(crate::proofs::Journals::journal_shows))]
 pub fn journal_shows()
     ensures { JournalShows }
+{}
+
+/// From the beginning on no frame is bad for a client, and it holds the page exactly while the process is up.
+pub fn all_frames_show()
+    ensures { AllFramesShow }
 {}
 
 /// The frames of a lawful journal carry whole trees and lean diffs.
@@ -99,4 +109,10 @@ pub fn session_goes_on()
 #[tactic(auto, using(crate::proofs::Shows::statics_weave))]
 pub fn statics_weave()
     ensures { StaticsWeave }
+{}
+
+/// Where a rendering meets what the one before it met, the diff holds nothing.
+#[tactic(auto, using(crate::proofs::Idles::unchanged_sends_nothing))]
+pub fn unchanged_sends_nothing()
+    ensures { UnchangedSendsNothing }
 {}
