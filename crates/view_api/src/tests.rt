@@ -1,14 +1,11 @@
-//! The trait can be met: views of one page, called through the trait alone.
-ghost use Rattle.std.specs.Prelude.{ℕ, List, [], ◌∷◌, Some, None, ◌==◌, codes, if◌then◌else◌};
-ghost use Rattle.value_core.specs.Value.{text};
+//! The trait can be met: views in memory, called through the trait alone.
 ghost use Rattle.value_core.specs.View.{view as value_view, assigns_view};
-ghost use Rattle.view_api.specs.Effect.{assign_to, push_event};
 ghost use Rattle.view_api.specs.View.{Means};
 
-use crate::{Effect, Effects, Owner, ViewFault, Views};
+use crate::{Effects, Greeting, Owner, ViewFault, Views};
 use std::alloc::Global;
 use std::test::Fail;
-use text_core::{ByKey, Seq, Text};
+use text_core::{ByKey, Text};
 use value_core::{Assigns, Value};
 
 // View 0 greets at its mount, and raises at each event.
