@@ -16,8 +16,8 @@ use Rattle.effects_apply.specs.Applied.{CountsFree, applied_view, Becomes, Does}
 abbrev pub Continues : List Effect → List (KeyValue Value) → Rest → List Effect → List (KeyValue Value) → Rest → Type 0
 Continues all before old left after new =
     (streams : List ℕ → Stream) (w : List Waiting) → CountsFree w old
-        → CountsFree w new × ((later : List ℕ → Stream)
-            × (apply_effects (effects_view all) (applied_view before streams w old) ≡ apply_effects (effects_view left) (applied_view after later w new)))
+    → CountsFree w new × ((later : List ℕ → Stream)
+    × (apply_effects (effects_view all) (applied_view before streams w old) ≡ apply_effects (effects_view left) (applied_view after later w new)))
 
 pub none_yet : (all : List Effect) (before : List (KeyValue Value)) (old : Rest) → Continues all before old all before old
 none_yet all before old = λ streams w h. (h, (streams, refl))

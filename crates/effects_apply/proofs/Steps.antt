@@ -51,7 +51,7 @@ seen_with k v (e ∷ es) = by (slice_cmp nat_cmp k e.key) (seen_with k v es)
   where
     by : (o : Ordering) → assigns_view (with_key k v es) ≡ scope.with_key k (view v) (assigns_view es)
         → assigns_view (match_ordering o (entry k v ∷ e ∷ es) (entry k v ∷ es) (e ∷ with_key k v es))
-            ≡ match_ordering o (model.assign k (view v) (model.assign e.key (view e.value) (assigns_view es))) (model.assign k (view v) (assigns_view es)) (model.assign e.key (view e.value) (scope.with_key k (view v) (assigns_view es)))
+        ≡ match_ordering o (model.assign k (view v) (model.assign e.key (view e.value) (assigns_view es))) (model.assign k (view v) (assigns_view es)) (model.assign e.key (view e.value) (scope.with_key k (view v) (assigns_view es)))
     by Less later = refl
     by Equal later = refl
     by Greater later = ap (model.assign e.key (view e.value)) later

@@ -15,9 +15,9 @@ returns-in-StreamInsert-clause-does c =
     let rest = c.args.rest.now in
     let at_fits : SFits w64 asked.at = search rules in
     rw asked.is
-        (subst (λ at. Does c.stream_insert.result (apply_effect (stream_insert asked._name asked._dom_id (view asked.item) at asked.limit)) present rest present rest)
-            (to_z-of_z at_fits)
-            (c.stream_insert.ensures asked._name asked._dom_id rest present))
+    (subst (λ at. Does c.stream_insert.result (apply_effect (stream_insert asked._name asked._dom_id (view asked.item) at asked.limit)) present rest present rest)
+    (to_z-of_z at_fits)
+    (c.stream_insert.ensures asked._name asked._dom_id rest present))
 
 pub returns-in-StreamDelete-clause-does : goal.returns-in-StreamDelete-clause-does
 returns-in-StreamDelete-clause-does c = rw c.in-StreamDelete.is (λ streams w h. (h, (with_batch c.in-StreamDelete._name (batch_delete c.in-StreamDelete._dom_id) streams, refl)))

@@ -28,9 +28,9 @@ effects-preserved c =
       so_far = one_more all present rest c.in-Some.effect left at.assigns.present at.rest so_far c.apply_effect.new.assigns.present c.apply_effect.new.rest c.in_ok-apply_effect.ensures.does;
       settled = λ name. c.in_ok-apply_effect.ensures.settled name ∙ at.invariant.settled name;
       counted = let was = at.invariant.counted in
-      let gone = c.in-Some.ensures.steps.1 in
-      let short = ap length steps in
-      omega arith;
+          let gone = c.in-Some.ensures.steps.1 in
+          let short = ap length steps in
+          omega arith;
     }
 
 pub returns-in_err-apply_effect-clause-does : goal.returns-in_err-apply_effect-clause-does

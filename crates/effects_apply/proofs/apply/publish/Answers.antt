@@ -13,4 +13,4 @@ compact-requires c = sendable_no_float (view c.args.value.now) (json_view c.in_o
 pub returns : goal.returns
 returns c = λ present streams w h.
     rw c.in_ok-json.ensures
-        (acts present streams w c.args.rest.now h (Publish c.args.topic.now (compact_text (json_view c.in_ok-json.json))) c.push.new.self (search rules))
+    (acts present streams w c.args.rest.now h (Publish c.args.topic.now (compact_text (json_view c.in_ok-json.json))) c.push.new.self (search rules))
