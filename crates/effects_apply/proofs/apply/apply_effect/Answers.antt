@@ -26,7 +26,7 @@ pub returns-in-StreamReset-clause-does : goal.returns-in-StreamReset-clause-does
 returns-in-StreamReset-clause-does c = rw c.in-StreamReset.is (λ streams w h. (h, (with_batch c.in-StreamReset._name (λ b. batch_reset) streams, refl)))
 
 pub returns-in-Publish-clause-does : goal.returns-in-Publish-clause-does
-returns-in-Publish-clause-does c = rw c.in-Publish.is (c.publish.ensures c.args.assigns.now.present)
+returns-in-Publish-clause-does c = rw c.in-Publish.is (c.publish.ensures.does c.args.assigns.now.present)
 
 pub returns-in-PushEvent-clause-does : goal.returns-in-PushEvent-clause-does
-returns-in-PushEvent-clause-does c = rw c.in-PushEvent.is (c.push_event.ensures c.args.assigns.now.present)
+returns-in-PushEvent-clause-does c = rw c.in-PushEvent.is (c.push_event.ensures.does c.args.assigns.now.present)

@@ -11,6 +11,7 @@ pub effects-init : goal.effects-init
 effects-init c = record {
   so_far = none_yet (into_iter_items c.into_iter-effect-iterator.result) c.args.assigns.now.present c.args.rest.now;
   settled = λ name. refl;
+  generation = refl;
   counted = search rules;
 }
 
@@ -27,6 +28,7 @@ effects-preserved c =
     record {
       so_far = one_more all present rest c.in-Some.effect left at.assigns.present at.rest so_far c.apply_effect.new.assigns.present c.apply_effect.new.rest c.in_ok-apply_effect.ensures.does;
       settled = λ name. c.in_ok-apply_effect.ensures.settled name ∙ at.invariant.settled name;
+      generation = c.in_ok-apply_effect.ensures.generation ∙ at.invariant.generation;
       counted = let was = at.invariant.counted in
           let gone = c.in-Some.ensures.steps.1 in
           let short = ap length steps in
