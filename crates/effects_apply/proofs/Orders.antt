@@ -1,16 +1,16 @@
 -- Effects one after the other.
-use Rattle.std.proofs.Common.{◌≡◌, ℕ, List, [], ◌∷◌, length, arith, Result, Ok, Err, IsErr, refl, sym, ap, subst, ◌∙◌}
+use Rattle.std.proofs.Common.{◌≡◌, ℕ, List, [], ◌∷◌, length, arith, Ok, Err, IsErr, refl, sym, ap, subst, ◌∙◌}
 use Rattle.text_core.specs.declared.by_key.KeyValue.{KeyValue}
 use Rattle.value_core.specs.declared.value.Value.{Value}
 use Rattle.view_api.specs.declared.effect.Effect.{Effect}
 use Rattle.view_api.specs.View.{effect_view, effects_view}
 use Rattle.doc_model.specs.Environment.{Stream}
 use Rattle.doc_model.specs.Evaluation.{Res, then_do}
-use Rattle.doc_model.specs.Effects.{Waiting, Applied, apply_effect, apply_effects}
+use Rattle.doc_model.specs.Effects.{Waiting, apply_effect, apply_effects}
 use Rattle.effects_apply.specs.declared.fault.EffectFault.{EffectFault}
 use Rattle.effects_apply.specs.declared.fault.EffectFault.TheVariants.{Raised, OutOfMemory}
 use Rattle.effects_apply.specs.declared.rest.Rest.{Rest}
-use Rattle.effects_apply.specs.Applied.{CountsFree, applied_view, Becomes, Does}
+use Rattle.effects_apply.specs.Applied.{CountsFree, applied_view, Does}
 
 -- the effects left, from where they now begin, give what all give from the beginning
 abbrev pub Continues : List Effect → List (KeyValue Value) → Rest → List Effect → List (KeyValue Value) → Rest → Type 0

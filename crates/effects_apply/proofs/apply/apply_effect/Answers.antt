@@ -1,4 +1,4 @@
-use Rattle.std.proofs.Common.{rules, ◌≡◌, refl, subst, SFits, w64, to_z-of_z}
+use Rattle.std.proofs.Common.{rules, refl, subst, SFits, w64, to_z-of_z}
 use Rattle.value_core.specs.View.{view}
 use Rattle.view_api.specs.Effect.{stream_insert}
 use Rattle.doc_model.specs.Effects.{apply_effect, with_batch, batch_delete, batch_reset}

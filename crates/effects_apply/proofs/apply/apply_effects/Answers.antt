@@ -1,5 +1,5 @@
 use Rattle.std.proofs.Common.{rules, ◌≡◌, List, [], ◌∷◌, length, Err, refl, sym, ap, subst, ◌∙◌, arith}
-use Rattle.std.specs.Vec.Iter.{into_iter_items, into_iter_len}
+use Rattle.std.specs.Vec.Iter.{into_iter_items}
 use Rattle.view_api.specs.declared.effect.Effect.{Effect}
 use Rattle.view_api.specs.View.{effects_view}
 use Rattle.doc_model.specs.Effects.{apply_effects}

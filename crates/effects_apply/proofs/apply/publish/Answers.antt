@@ -1,4 +1,4 @@
-use Rattle.std.proofs.Common.{rules, ◌≡◌, ◌++◌, ◌∷◌, [], Ok, ap, ◌∙◌}
+use Rattle.std.proofs.Common.{rules}
 use Rattle.serde_json.specs.View.{view as json_view}
 use Rattle.serde_json.specs.Written.{compact_text}
 use Rattle.value_core.specs.View.{view}

@@ -1,4 +1,4 @@
-use Rattle.std.proofs.Common.{rules, ◌≡◌, ◌++◌, ◌∷◌, []}
+use Rattle.std.proofs.Common.{rules}
 use Rattle.value_core.specs.View.{view}
 use Rattle.effects_apply.proofs.Steps.{pushes}
 use Rattle.effects_apply.proofs.apply.push_event.Goals as goal

@@ -1,6 +1,6 @@
-use Rattle.std.proofs.Common.{rules, ◌≡◌, ◌+◌, ◌-◌, ◌++◌, ◌∷◌, [], arith}
+use Rattle.std.proofs.Common.{rules, ◌≡◌, ◌+◌, ◌-◌}
 use Rattle.serde_json.specs.View.{view as json_view}
-use Rattle.effects_apply.proofs.Steps.{sends, is_full}
+use Rattle.effects_apply.proofs.Steps.{sends}
 use Rattle.effects_apply.proofs.apply.send_self.Goals as goal
 
 pub returns-clause-does : goal.returns-clause-does

@@ -1,6 +1,6 @@
 use Rattle.machine_api.specs.declared.machine.Action.TheVariants.{Subscribe}
 use Rattle.effects_apply.proofs.Steps.{acts}
-use Rattle.std.proofs.Common.{rules, ◌≡◌, ◌++◌, ◌∷◌, []}
+use Rattle.std.proofs.Common.{rules}
 use Rattle.effects_apply.proofs.apply.subscribe.Goals as goal
 
 pub returns-clause-does : goal.returns-clause-does

@@ -1,4 +1,4 @@
-use Rattle.std.proofs.Common.{rules, ◌≡◌, ◌++◌, ◌∷◌, []}
+use Rattle.std.proofs.Common.{rules}
 use Rattle.machine_api.specs.declared.machine.Action.TheVariants.{Unsubscribe}
 use Rattle.effects_apply.proofs.Steps.{acts}
 use Rattle.effects_apply.proofs.apply.unsubscribe.Goals as goal
