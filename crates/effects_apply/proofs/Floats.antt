@@ -1,13 +1,12 @@
 -- What is written for a value has no float.
-use Rattle.std.proofs.Common.{◌≡◌, ℕ, List, ℤ, pos, negsuc, ◌||◌, Bool, true, false, Option, Some, None, option_map, option_and_then, Result, Ok, Err, if◌then◌else◌, refl, ap, ◌∙◌, subst, nat_lt}
+use Rattle.std.proofs.Common.{◌≡◌, ℕ, List, ℤ, pos, negsuc, ◌||◌, Bool, true, false, Option, Some, None, option_map, option_and_then, Ok, Err, if◌then◌else◌, refl, nat_lt}
 use Rattle.serde_json.specs.Data.{Data, array, object, Items, item, Members, member, number}
 use Rattle.serde_json.specs.Find.{of_integer}
 use Rattle.serde_json.specs.Written.{has_float, items_have_float, members_have_float}
 use Rattle.value_core.specs.Value.{Value, nil, boolean, whole_number, text, atom, list, tuple, map_of, slot, Values, no_values, value, Assigns, no_assigns, assign}
-use Rattle.value_core.specs.declared.raise.Raise.{Raise}
 use Rattle.value_core.specs.declared.raise.Raise.TheVariants.{BadArgument, Deep}
 use Rattle.value_core.specs.Json.{json_of_value, json_of_values, json_of_assigns}
-use Rattle.doc_model.specs.Evaluation.{Res, then_do, or_raise, value_depth}
+use Rattle.doc_model.specs.Evaluation.{then_do, or_raise, value_depth}
 use Rattle.doc_model.specs.Effects.{sendable}
 
 -- whether a float is written, where anything is

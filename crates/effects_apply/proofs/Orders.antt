@@ -1,23 +1,23 @@
 -- Effects one after the other.
-use Rattle.std.proofs.Common.{◌≡◌, ℕ, List, [], ◌∷◌, length, arith, Result, Ok, Err, IsErr, refl, sym, ap, subst, ◌∙◌}
+use Rattle.std.proofs.Common.{◌≡◌, ℕ, List, [], ◌∷◌, length, arith, Ok, Err, IsErr, refl, sym, ap, subst, ◌∙◌}
 use Rattle.text_core.specs.declared.by_key.KeyValue.{KeyValue}
 use Rattle.value_core.specs.declared.value.Value.{Value}
 use Rattle.view_api.specs.declared.effect.Effect.{Effect}
 use Rattle.view_api.specs.View.{effect_view, effects_view}
 use Rattle.doc_model.specs.Environment.{Stream}
 use Rattle.doc_model.specs.Evaluation.{Res, then_do}
-use Rattle.doc_model.specs.Effects.{Waiting, Applied, apply_effect, apply_effects}
+use Rattle.doc_model.specs.Effects.{Waiting, apply_effect, apply_effects}
 use Rattle.effects_apply.specs.declared.fault.EffectFault.{EffectFault}
 use Rattle.effects_apply.specs.declared.fault.EffectFault.TheVariants.{Raised, OutOfMemory}
 use Rattle.effects_apply.specs.declared.rest.Rest.{Rest}
-use Rattle.effects_apply.specs.Applied.{CountsFree, applied_view, Becomes, Does}
+use Rattle.effects_apply.specs.Applied.{CountsFree, applied_view, Does}
 
 -- the effects left, from where they now begin, give what all give from the beginning
 abbrev pub Continues : List Effect → List (KeyValue Value) → Rest → List Effect → List (KeyValue Value) → Rest → Type 0
 Continues all before old left after new =
     (streams : List ℕ → Stream) (w : List Waiting) → CountsFree w old
-        → CountsFree w new × ((later : List ℕ → Stream)
-            × (apply_effects (effects_view all) (applied_view before streams w old) ≡ apply_effects (effects_view left) (applied_view after later w new)))
+    → CountsFree w new × ((later : List ℕ → Stream)
+    × (apply_effects (effects_view all) (applied_view before streams w old) ≡ apply_effects (effects_view left) (applied_view after later w new)))
 
 pub none_yet : (all : List Effect) (before : List (KeyValue Value)) (old : Rest) → Continues all before old all before old
 none_yet all before old = λ streams w h. (h, (streams, refl))

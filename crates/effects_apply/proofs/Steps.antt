@@ -1,5 +1,5 @@
 -- What each effect leaves.
-use Rattle.std.proofs.Common.{◌≡◌, ℕ, suc, ◌+◌, ◌<◌, ◌≤◌, List, [], ◌∷◌, ◌++◌, length, map, Bool, true, false, Result, Ok, Err, IsErr, is_ok, if◌then◌else◌, refl, sym, ap, ◌∙◌, nat_lt, arith, append_assoc, ℤ, Option}
+use Rattle.std.proofs.Common.{◌≡◌, ℕ, ◌+◌, ◌<◌, ◌≤◌, List, [], ◌∷◌, ◌++◌, length, map, Bool, true, false, Result, Ok, Err, IsErr, is_ok, if◌then◌else◌, refl, sym, ap, ◌∙◌, nat_lt, arith, append_assoc, ℤ, Option}
 use Rattle.std.proofs.lemmas.List.{map-append, length-append}
 use Rattle.std.proofs.lemmas.Bool.{lt-ltb, le-ltb}
 use Rattle.std.specs.Ordering.{nat_cmp, match_ordering}
@@ -13,15 +13,15 @@ use Rattle.text_core.specs.Keyed.{entry, with_key}
 use Rattle.value_core.specs.Value as model
 use Rattle.value_core.specs.View.{view, assigns_view}
 use Rattle.value_core.specs.declared.value.Value.{Value}
-use Rattle.value_core.specs.declared.raise.Raise.TheVariants.{BadArgument, Deep, InboxFull}
+use Rattle.value_core.specs.declared.raise.Raise.TheVariants.{BadArgument, Deep}
 use Rattle.machine_api.specs.declared.machine.Action as asked
 use Rattle.diff_tree.specs.Container.{Position, Limit}
-use Rattle.view_api.specs.Effect.{assign_to, stream_insert, send_self, push_event, publish}
+use Rattle.view_api.specs.Effect.{assign_to, stream_insert, send_self, push_event}
 use Rattle.doc_model.specs.Environment as scope
 use Rattle.doc_model.specs.Environment.{Stream}
-use Rattle.doc_model.specs.Evaluation.{Res, then_do, on_res, value_depth}
+use Rattle.doc_model.specs.Evaluation.{Res, value_depth}
 use Rattle.doc_model.specs.Calls.{has_slot}
-use Rattle.doc_model.specs.Effects.{Waiting, sent, inbox_limit, storable, sendable, position_of, limit_of, acting, send_value, is_kept_name, assigned, in_stream, batch_insert, insert_of, Applied, apply_effect}
+use Rattle.doc_model.specs.Effects.{Waiting, sent, inbox_limit, storable, sendable, position_of, limit_of, acting, is_kept_name, in_stream, batch_insert, insert_of, Applied, apply_effect}
 use Rattle.effects_apply.specs.declared.rest.Push.{Push}
 use Rattle.effects_apply.specs.declared.rest.Rest.{Rest}
 use Rattle.effects_apply.specs.Applied.{action_view, push_view, rest_view, CountsFree, applied_view, Becomes}
@@ -51,7 +51,7 @@ seen_with k v (e ∷ es) = by (slice_cmp nat_cmp k e.key) (seen_with k v es)
   where
     by : (o : Ordering) → assigns_view (with_key k v es) ≡ scope.with_key k (view v) (assigns_view es)
         → assigns_view (match_ordering o (entry k v ∷ e ∷ es) (entry k v ∷ es) (e ∷ with_key k v es))
-            ≡ match_ordering o (model.assign k (view v) (model.assign e.key (view e.value) (assigns_view es))) (model.assign k (view v) (assigns_view es)) (model.assign e.key (view e.value) (scope.with_key k (view v) (assigns_view es)))
+        ≡ match_ordering o (model.assign k (view v) (model.assign e.key (view e.value) (assigns_view es))) (model.assign k (view v) (assigns_view es)) (model.assign e.key (view e.value) (scope.with_key k (view v) (assigns_view es)))
     by Less later = refl
     by Equal later = refl
     by Greater later = ap (model.assign e.key (view e.value)) later

@@ -1,7 +1,5 @@
 //! The effects of a handler, applied in order.
-ghost use Rattle.std.specs.Prelude.{◌≡◌, ℕ, List, OnOk, ◌∷◌, [], ◌++◌};
-ghost use Rattle.text_core.specs.declared.by_key.KeyValue.{KeyValue};
-ghost use Rattle.value_core.specs.declared.value.Value.{Value as Stored};
+ghost use Rattle.std.specs.Prelude.{◌≡◌, ℕ, List, OnOk};
 ghost use Rattle.value_core.specs.View.{view};
 ghost use Rattle.view_api.specs.Effect as meant;
 ghost use Rattle.view_api.specs.View.{effect_view, effects_view};
@@ -30,6 +28,7 @@ pub fn apply_effects(
 ) -> Result<(), EffectFault>
     ensures does { Does result (apply_effects (effects_view effects)) assigns.old.present rest.old assigns.new.present rest.new }
     ensures settled { OnOk result ((name : List ℕ) → settled_of assigns.new name ≡ settled_of assigns.old name) }
+    ensures generation { OnOk result (rest.new.generation ≡ rest.old.generation) }
 {
     'effects: for effect in effects.into_vec() {
         apply_effect(alloc, effect, assigns, rest)?;
@@ -45,6 +44,7 @@ fn apply_effect(
 ) -> Result<(), EffectFault>
     ensures does { Does result (apply_effect (effect_view effect)) assigns.old.present rest.old assigns.new.present rest.new }
     ensures settled { OnOk result ((name : List ℕ) → settled_of assigns.new name ≡ settled_of assigns.old name) }
+    ensures generation { OnOk result (rest.new.generation ≡ rest.old.generation) }
 {
     match effect {
         Effect::Assign { name, value } => assign(&name, value, assigns),
@@ -100,7 +100,8 @@ fn stream_insert(item: &Value, at: i64, limit: Option<i64>) -> Result<(), Effect
 }
 
 fn subscribe(alloc: Global, topic: &Text, rest: &mut Rest) -> Result<(), EffectFault>
-    ensures { DoesBeside result (meant.subscribe topic.now) rest.old rest.new }
+    ensures does { DoesBeside result (meant.subscribe topic.now) rest.old rest.new }
+    ensures generation { OnOk result (rest.new.generation ≡ rest.old.generation) }
 {
     let topic = Bytes::copy_of(alloc, topic.as_str().as_bytes())?;
     let generation = rest.generation;
@@ -109,7 +110,8 @@ fn subscribe(alloc: Global, topic: &Text, rest: &mut Rest) -> Result<(), EffectF
 }
 
 fn unsubscribe(alloc: Global, topic: &Text, rest: &mut Rest) -> Result<(), EffectFault>
-    ensures { DoesBeside result (meant.unsubscribe topic.now) rest.old rest.new }
+    ensures does { DoesBeside result (meant.unsubscribe topic.now) rest.old rest.new }
+    ensures generation { OnOk result (rest.new.generation ≡ rest.old.generation) }
 {
     let topic = Bytes::copy_of(alloc, topic.as_str().as_bytes())?;
     let generation = rest.generation;
@@ -119,7 +121,8 @@ fn unsubscribe(alloc: Global, topic: &Text, rest: &mut Rest) -> Result<(), Effec
 }
 
 fn publish(alloc: Global, topic: &Text, value: &Value, rest: &mut Rest) -> Result<(), EffectFault>
-    ensures { DoesBeside result (meant.publish topic.now (view value.now)) rest.old rest.new }
+    ensures does { DoesBeside result (meant.publish topic.now (view value.now)) rest.old rest.new }
+    ensures generation { OnOk result (rest.new.generation ≡ rest.old.generation) }
 {
     let json = sendable_json(alloc, value)?;
     let value = compact(alloc, &json)?;
@@ -129,7 +132,8 @@ fn publish(alloc: Global, topic: &Text, value: &Value, rest: &mut Rest) -> Resul
 }
 
 fn send_self(alloc: Global, value: Value, rest: &mut Rest) -> Result<(), EffectFault>
-    ensures { DoesBeside result (meant.send_self (view value)) rest.old rest.new }
+    ensures does { DoesBeside result (meant.send_self (view value)) rest.old rest.new }
+    ensures generation { OnOk result (rest.new.generation ≡ rest.old.generation) }
 {
     let _json = sendable_json(alloc, &value)?;
     if rest.free == 0 {
@@ -141,7 +145,8 @@ fn send_self(alloc: Global, value: Value, rest: &mut Rest) -> Result<(), EffectF
 }
 
 fn push_event(alloc: Global, name: Text, value: &Value, rest: &mut Rest) -> Result<(), EffectFault>
-    ensures { DoesBeside result (meant.push_event name (view value.now)) rest.old rest.new }
+    ensures does { DoesBeside result (meant.push_event name (view value.now)) rest.old rest.new }
+    ensures generation { OnOk result (rest.new.generation ≡ rest.old.generation) }
 {
     let payload = sendable_json(alloc, value)?;
     rest.pushed.push(Push { name, payload })?;

@@ -1,6 +1,5 @@
 //! What effects may carry.
-ghost use Rattle.std.specs.Prelude.{◌≡◌, ◌||◌, IsErrOf, IfOk, nat_lt, is_ok, false, codes};
-ghost use Rattle.std.specs.Str.{bytes_eq};
+ghost use Rattle.std.specs.Prelude.{◌≡◌, IfOk, nat_lt, is_ok, false};
 ghost use Rattle.serde_json.specs.Written.{compact_text, has_float};
 ghost use Rattle.serde_json.specs.View.{view as json_view};
 ghost use Rattle.value_core.specs.View.{view, values_view, assigns_view};

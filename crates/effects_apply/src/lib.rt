@@ -5,6 +5,8 @@ mod apply;
 mod fault;
 mod judge;
 mod rest;
+#[cfg(test)]
+mod tests;
 
 pub use apply::apply_effects;
 pub use fault::EffectFault;

@@ -1,4 +1,4 @@
-use Rattle.std.proofs.Common.{rules, ◌≡◌, refl, subst, SFits, w64, to_z-of_z}
+use Rattle.std.proofs.Common.{rules, refl, subst, SFits, w64, to_z-of_z}
 use Rattle.value_core.specs.View.{view}
 use Rattle.view_api.specs.Effect.{stream_insert}
 use Rattle.doc_model.specs.Effects.{apply_effect, with_batch, batch_delete, batch_reset}
@@ -15,9 +15,9 @@ returns-in-StreamInsert-clause-does c =
     let rest = c.args.rest.now in
     let at_fits : SFits w64 asked.at = search rules in
     rw asked.is
-        (subst (λ at. Does c.stream_insert.result (apply_effect (stream_insert asked._name asked._dom_id (view asked.item) at asked.limit)) present rest present rest)
-            (to_z-of_z at_fits)
-            (c.stream_insert.ensures asked._name asked._dom_id rest present))
+    (subst (λ at. Does c.stream_insert.result (apply_effect (stream_insert asked._name asked._dom_id (view asked.item) at asked.limit)) present rest present rest)
+    (to_z-of_z at_fits)
+    (c.stream_insert.ensures asked._name asked._dom_id rest present))
 
 pub returns-in-StreamDelete-clause-does : goal.returns-in-StreamDelete-clause-does
 returns-in-StreamDelete-clause-does c = rw c.in-StreamDelete.is (λ streams w h. (h, (with_batch c.in-StreamDelete._name (batch_delete c.in-StreamDelete._dom_id) streams, refl)))
@@ -26,7 +26,7 @@ pub returns-in-StreamReset-clause-does : goal.returns-in-StreamReset-clause-does
 returns-in-StreamReset-clause-does c = rw c.in-StreamReset.is (λ streams w h. (h, (with_batch c.in-StreamReset._name (λ b. batch_reset) streams, refl)))
 
 pub returns-in-Publish-clause-does : goal.returns-in-Publish-clause-does
-returns-in-Publish-clause-does c = rw c.in-Publish.is (c.publish.ensures c.args.assigns.now.present)
+returns-in-Publish-clause-does c = rw c.in-Publish.is (c.publish.ensures.does c.args.assigns.now.present)
 
 pub returns-in-PushEvent-clause-does : goal.returns-in-PushEvent-clause-does
-returns-in-PushEvent-clause-does c = rw c.in-PushEvent.is (c.push_event.ensures c.args.assigns.now.present)
+returns-in-PushEvent-clause-does c = rw c.in-PushEvent.is (c.push_event.ensures.does c.args.assigns.now.present)

@@ -1,5 +1,5 @@
 use Rattle.std.proofs.Common.{rules, ◌≡◌, List, [], ◌∷◌, length, Err, refl, sym, ap, subst, ◌∙◌, arith}
-use Rattle.std.specs.Vec.Iter.{into_iter_items, into_iter_len}
+use Rattle.std.specs.Vec.Iter.{into_iter_items}
 use Rattle.view_api.specs.declared.effect.Effect.{Effect}
 use Rattle.view_api.specs.View.{effects_view}
 use Rattle.doc_model.specs.Effects.{apply_effects}
@@ -11,6 +11,7 @@ pub effects-init : goal.effects-init
 effects-init c = record {
   so_far = none_yet (into_iter_items c.into_iter-effect-iterator.result) c.args.assigns.now.present c.args.rest.now;
   settled = λ name. refl;
+  generation = refl;
   counted = search rules;
 }
 
@@ -27,10 +28,11 @@ effects-preserved c =
     record {
       so_far = one_more all present rest c.in-Some.effect left at.assigns.present at.rest so_far c.apply_effect.new.assigns.present c.apply_effect.new.rest c.in_ok-apply_effect.ensures.does;
       settled = λ name. c.in_ok-apply_effect.ensures.settled name ∙ at.invariant.settled name;
+      generation = c.in_ok-apply_effect.ensures.generation ∙ at.invariant.generation;
       counted = let was = at.invariant.counted in
-      let gone = c.in-Some.ensures.steps.1 in
-      let short = ap length steps in
-      omega arith;
+          let gone = c.in-Some.ensures.steps.1 in
+          let short = ap length steps in
+          omega arith;
     }
 
 pub returns-in_err-apply_effect-clause-does : goal.returns-in_err-apply_effect-clause-does
