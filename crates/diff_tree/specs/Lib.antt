@@ -5,3 +5,4 @@ pub mod Mark
 pub mod Spelling
 pub mod Frame
 pub mod Parts
+pub mod Grammar

@@ -34,9 +34,13 @@ part_data = fold-Part Data Data place_step part_step
 abbrev pub place_data : PlaceValue → Data
 place_data = fold-PlaceValue Data Data place_step part_step
 
+-- the values of places, seen
+abbrev pub seen : List (KeyValue PlaceValue) → List (KeyValue Data)
+seen es = map (on_value place_data) es
+
 -- a node of these statics and places
 abbrev pub node_data : Option (List (List ℕ)) → List (KeyValue PlaceValue) → Data
-node_data st es = object (with_statics st (places_json (map (on_value place_data) es)))
+node_data st es = object (with_statics st (places_json (seen es)))
 
 abbrev pub diff_data : Diff → Data
 diff_data d = part_data d.root

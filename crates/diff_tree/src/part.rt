@@ -7,8 +7,8 @@ use text_core::{ByKey, Names, Text};
 #[cycle(part)]
 #[derive(Debug, Drop)]
 pub struct Part {
-    statics: Option<Names>,
-    places: ByKey<PlaceValue>,
+    pub(crate) statics: Option<Names>,
+    pub(crate) places: ByKey<PlaceValue>,
 }
 
 /// What is sent for a place.

@@ -1,0 +1,6 @@
+mod Order
+mod Statics
+mod Stored
+mod ReadsBack
+mod Written
+mod Taken

@@ -1,0 +1,203 @@
+-- Nodes read from JSON, member by member.
+use Rattle.std.proofs.Common.{◌≡◌, ℕ, zero, suc, ◌+◌, ◌-◌, ◌<◌, ◌≤◌, ◌==◌, List, [], ◌∷◌, ◌++◌, length, get_or, drop, map, String, string_bytes, Global, Bool, true, false, ◌&&◌, ◌||◌, if◌then◌else◌, Option, Some, None, option_map, is_some, refl, sym, ap, ◌∙◌, subst, arith, nat_cmp, codes, decimal, ◌⊎◌, inl, inr}
+use Rattle.std.specs.List.{AllByRecursion}
+use Rattle.std.specs.List.Sorted.{IsStrictlySortedBy}
+use Rattle.std.specs.Ordering.{is_lt}
+use Rattle.std.specs.Str.{bytes_eq}
+use Rattle.std.specs.Cmp.Lexicographic.{slice_cmp}
+use Rattle.std.proofs.Math.ListN.{drop_of_length-le}
+use Rattle.std.proofs.lemmas.List.{map-append}
+use Rattle.serde_json.specs.Data.{Data, null, boolean, number, string, array, object, Items, no_items, item, Members, no_members, member, put}
+use Rattle.serde_json.specs.Events.{items_len, members_len}
+use Rattle.serde_json.specs.Find.{get, get_member, as_str, as_array, as_object}
+use Rattle.serde_json.specs.View.{view, items_of, items_view, members_view}
+use Rattle.serde_json.specs.declared.value.Value as json
+use Rattle.text_core.specs.declared.by_key.KeyValue.{KeyValue}
+use Rattle.text_core.specs.Keyed.{is_before, ascend, keys, entry, on_value}
+use Rattle.diff_tree.specs.Spelling.{texts_json}
+use Rattle.diff_tree.specs.Parts.{place_data, places_json, with_statics, seen}
+use Rattle.diff_tree.specs.Grammar.{are_texts, count_of, has_places, are_statics, statics_fit, is_diff, are_places, is_place, is_value, without_statics}
+use Rattle.diff_tree.specs.declared.part.PlaceValue.{PlaceValue}
+use Rattle.diff_tree.proofs.Order.{cons_at, names, join, join-none, join-join, chain, chain-snoc}
+use Rattle.diff_tree.proofs.Statics.{put_back, none_out}
+use Rattle.diff_tree.proofs.Written.{seen_in_order}
+
+abbrev Json : Type 0
+Json = json.Value
+
+-- ---- texts
+
+abbrev pub join_items : Items → Items → Items
+join_items no_items es = es
+join_items (item d ds) es = item d (join_items ds es)
+
+join_items-none : (ds : Items) → join_items ds no_items ≡ ds
+join_items-none no_items = refl
+join_items-none (item d ds) = ap (item d) (join_items-none ds)
+
+texts-snoc : (ts : List (List ℕ)) (t : List ℕ) (es : Items) → join_items (texts_json (ts ++ t ∷ [])) es ≡ join_items (texts_json ts) (item (string t) es)
+texts-snoc [] t es = refl
+texts-snoc (s ∷ ts) t es = ap (item (string s)) (texts-snoc ts t es)
+
+is_text : (d : Data) (t : List ℕ) → Some t ≡ as_str d → d ≡ string t
+is_text null t h = cc
+is_text (boolean b) t h = cc
+is_text (number n) t h = cc
+is_text (string s) t h = cc
+is_text (array ds) t h = cc
+is_text (object ms) t h = cc
+
+no_text : (d : Data) (ds : Items) → None ≡ as_str d → are_texts (item d ds) ≡ false
+no_text null ds h = refl
+no_text (boolean b) ds h = refl
+no_text (number n) ds h = refl
+no_text (string s) ds h = cc
+no_text (array es) ds h = refl
+no_text (object ms) ds h = refl
+
+-- one more text was read
+pub texts_on : (js : List Json) (i : ℕ) (j : Json) (ts : List (List ℕ)) (t : List ℕ) (whole : Items) → i < length js → j ≡ get_or js i j → Some t ≡ as_str (view j)
+    → join_items (texts_json ts) (items_view (drop i js)) ≡ whole → join_items (texts_json (ts ++ t ∷ [])) (items_view (drop (i + 1) js)) ≡ whole
+texts_on js i j ts t whole h is text so_far =
+    let rest : Items = items_view (drop (i + 1) js) in
+    texts-snoc ts t rest ∙ ap (λ d. join_items (texts_json ts) (item d rest)) (sym (is_text (view j) t text)) ∙ ap (λ l. join_items (texts_json ts) (items_view l)) (sym (cons_at js i j h is)) ∙ so_far
+
+pub are_on : (js : List Json) (i : ℕ) (j : Json) (t : List ℕ) (whole : Bool) → i < length js → j ≡ get_or js i j → Some t ≡ as_str (view j)
+    → are_texts (items_view (drop i js)) ≡ whole → are_texts (items_view (drop (i + 1) js)) ≡ whole
+are_on js i j t whole h is text so_far =
+    let rest : Items = items_view (drop (i + 1) js) in
+    ap (λ d. are_texts (item d rest)) (sym (is_text (view j) t text)) ∙ ap (λ l. are_texts (items_view l)) (sym (cons_at js i j h is)) ∙ so_far
+
+pub are_not : (js : List Json) (i : ℕ) (j : Json) (whole : Bool) → i < length js → j ≡ get_or js i j → None ≡ as_str (view j)
+    → are_texts (items_view (drop i js)) ≡ whole → whole ≡ false
+are_not js i j whole h is none so_far =
+    sym so_far ∙ ap (λ l. are_texts (items_view l)) (cons_at js i j h is) ∙ no_text (view j) (items_view (drop (i + 1) js)) none
+
+pub texts_all : (js : List Json) (i : ℕ) (ts : List (List ℕ)) → length js ≤ i → join_items (texts_json ts) (items_view (drop i js)) ≡ items_view js → texts_json ts ≡ items_view js
+texts_all js i ts h so_far = sym (join_items-none (texts_json ts)) ∙ ap (λ l. join_items (texts_json ts) (items_view l)) (sym (drop_of_length-le js h)) ∙ so_far
+
+pub are_all : (js : List Json) (i : ℕ) → length js ≤ i → are_texts (items_view (drop i js)) ≡ are_texts (items_view js) → are_texts (items_view js) ≡ true
+are_all js i h so_far = sym so_far ∙ ap (λ l. are_texts (items_view l)) (drop_of_length-le js h)
+
+-- ---- how many there are
+
+pub items_len-view : (js : List Json) → items_len (items_view js) ≡ length js
+items_len-view [] = refl
+items_len-view (j ∷ js) = omega (arith, items_len-view js)
+
+members_len-view : (ms : List (String Global × Json)) → members_len (members_view ms) ≡ length ms
+members_len-view [] = refl
+members_len-view (m ∷ ms) = omega (arith, members_len-view ms)
+
+pub counted : (d : Data) (ms : List (String Global × Json)) → Some (members_view ms) ≡ as_object d → length ms ≡ count_of d
+counted null ms h = cc
+counted (boolean b) ms h = cc
+counted (number n) ms h = cc
+counted (string s) ms h = cc
+counted (array ds) ms h = cc
+counted (object ns) ms h =
+    let same : Some (members_view ms) ≡ Some ns = h in
+    let inside : members_view ms ≡ ns = cc in
+    sym (members_len-view ms) ∙ ap members_len inside
+
+pub counted_none : (d : Data) → None ≡ as_object d → 0 ≡ count_of d
+counted_none null h = refl
+counted_none (boolean b) h = refl
+counted_none (number n) h = refl
+counted_none (string s) h = refl
+counted_none (array ds) h = refl
+counted_none (object ms) h = cc
+
+-- a place is lacking
+pub lacks : (n k : ℕ) (d : Data) → k < n → is_some (get (decimal k) d) ≡ false → has_places n d ≡ false
+lacks zero k d h none = absurd (omega arith)
+lacks (suc n) k d h none = by (omega arith) (λ g. lacks n k d g none)
+  where
+    and_false : (b : Bool) → (b && false) ≡ false
+    and_false true = refl
+    and_false false = refl
+
+    by : (k ≡ n) ⊎ (k < n) → (k < n → has_places n d ≡ false) → has_places (suc n) d ≡ false
+    by (inl same) rest = ap (λ m. is_some (get (decimal m) d) && has_places n d) (sym same) ∙ ap (λ b. b && has_places n d) none
+    by (inr below) rest = ap (λ b. is_some (get (decimal n) d) && b) (rest below) ∙ and_false (is_some (get (decimal n) d))
+
+-- ---- places
+
+-- the keys of members
+abbrev pub member_keys : List (String Global × Json) → List (List ℕ)
+member_keys [] = []
+member_keys (m ∷ ms) = string_bytes m.0 ∷ member_keys ms
+
+-- a JSON object's keys are in order
+pub sorted_ascends : (ms : List (String Global × Json)) → IsStrictlySortedBy (λ (x y : String Global). slice_cmp nat_cmp (string_bytes x) (string_bytes y)) (map (λ m. m.0) ms) → ascend (member_keys ms) ≡ true
+unfolding IsStrictlySortedBy
+sorted_ascends [] h = refl
+sorted_ascends (m ∷ []) h = refl
+sorted_ascends (m ∷ n ∷ ms) h = rw (ap is_lt h.0.0) (sorted_ascends (n ∷ ms) h.1)
+
+pub names-view : (ms : List (String Global × Json)) → names (members_view ms) ≡ member_keys ms
+names-view [] = refl
+names-view (m ∷ ms) = ap (λ l. string_bytes m.0 ∷ l) (names-view ms)
+
+without_other : (b : Bool) (k : List ℕ) (d : Data) (ms : Members) → b ≡ false → (if b then without_statics ms else member k d (without_statics ms)) ≡ member k d (without_statics ms)
+without_other b k d ms h = rw h refl
+
+without_same : (b : Bool) (k : List ℕ) (d : Data) (ms : Members) → b ≡ true → (if b then without_statics ms else member k d (without_statics ms)) ≡ without_statics ms
+without_same b k d ms h = rw h refl
+
+-- `s` is passed over
+pub passes_on : (k : String Global) (j : Json) (js : List (String Global × Json)) (front : Members) (whole : Members) → bytes_eq (string_bytes k) (codes "s") ≡ true
+    → join front (without_statics (members_view ((k, j) ∷ js))) ≡ whole → join front (without_statics (members_view js)) ≡ whole
+passes_on k j js front whole h so_far = ap (join front) (sym (without_same (bytes_eq (string_bytes k) (codes "s")) (string_bytes k) (view j) (members_view js) h)) ∙ so_far
+
+pub passes_fit : (k : String Global) (j : Json) (js : List (String Global × Json)) (whole : Bool) → bytes_eq (string_bytes k) (codes "s") ≡ true
+    → are_places (members_view ((k, j) ∷ js)) ≡ whole → are_places (members_view js) ≡ whole
+passes_fit k j js whole h so_far =
+    sym (ap (λ b. (b || (is_place (string_bytes k) && is_value (view j))) && are_places (members_view js)) h) ∙ so_far
+
+-- one more place was read
+pub places_on : (k : String Global) (j : Json) (js : List (String Global × Json)) (es : List (KeyValue PlaceValue)) (name : List ℕ) (v : PlaceValue) (whole : Members)
+    → bytes_eq (string_bytes k) (codes "s") ≡ false → name ≡ string_bytes k → place_data v ≡ view j
+    → join (chain (seen es)) (without_statics (members_view ((k, j) ∷ js))) ≡ whole → join (chain (seen (es ++ entry name v ∷ []))) (without_statics (members_view js)) ≡ whole
+places_on k j js es name v whole h same read so_far =
+    let rest : Members = without_statics (members_view js) in
+    ap (λ l. join (chain l) rest) (map-append (on_value place_data) es (entry name v ∷ []))
+    ∙ ap (λ l. join l rest) (chain-snoc (seen es) (entry name (place_data v)))
+    ∙ join-join (chain (seen es)) (member name (place_data v) no_members) rest
+    ∙ ap (λ n. join (chain (seen es)) (member n (place_data v) rest)) same
+    ∙ ap (λ d. join (chain (seen es)) (member (string_bytes k) d rest)) read
+    ∙ ap (join (chain (seen es))) (sym (without_other (bytes_eq (string_bytes k) (codes "s")) (string_bytes k) (view j) (members_view js) h)) ∙ so_far
+
+or_true : (b : Bool) → (b || true) ≡ true
+or_true true = refl
+or_true false = refl
+
+pub places_fit : (k : String Global) (j : Json) (js : List (String Global × Json)) (whole : Bool) → (is_place (string_bytes k) && is_value (view j)) ≡ true
+    → are_places (members_view ((k, j) ∷ js)) ≡ whole → are_places (members_view js) ≡ whole
+places_fit k j js whole h so_far =
+    let s : Bool = bytes_eq (string_bytes k) (codes "s") in
+    sym (ap (λ b. (s || b) && are_places (members_view js)) h ∙ ap (λ b. b && are_places (members_view js)) (or_true s)) ∙ so_far
+
+pub places_not : (k : String Global) (j : Json) (js : List (String Global × Json)) (whole : Bool) → bytes_eq (string_bytes k) (codes "s") ≡ false
+    → (is_place (string_bytes k) && is_value (view j)) ≡ false → are_places (members_view ((k, j) ∷ js)) ≡ whole → whole ≡ false
+places_not k j js whole h none so_far =
+    let p : Bool = is_place (string_bytes k) && is_value (view j) in
+    sym so_far ∙ ap (λ s. (s || p) && are_places (members_view js)) h ∙ ap (λ b. b && are_places (members_view js)) none
+
+-- all places were read
+pub places_all : (es : List (KeyValue PlaceValue)) (ms : List (String Global × Json)) → ascend (keys es ++ []) ≡ true
+    → join (chain (seen es)) no_members ≡ without_statics (members_view ms) → places_json (seen es) ≡ without_statics (members_view ms)
+places_all es ms in_order so_far = seen_in_order es (subst (λ l. ascend l ≡ true) (none_behind (keys es)) in_order) ∙ sym (join-none (chain (seen es))) ∙ so_far
+  where
+    none_behind : (xs : List (List ℕ)) → xs ++ [] ≡ xs
+    none_behind [] = refl
+    none_behind (x ∷ xs) = ap (λ l. x ∷ l) (none_behind xs)
+
+-- ---- the whole node
+
+-- statics found at `s` go back to their place
+pub whole_node : (ms : Members) (st : Option (List (List ℕ))) (places : Members) → ascend (names ms) ≡ true → option_map (λ ts. array (texts_json ts)) st ≡ get_member (codes "s") ms
+    → places ≡ without_statics ms → with_statics st places ≡ ms
+whole_node ms None places in_order found rest = rest ∙ none_out ms in_order (sym found)
+whole_node ms (Some ts) places in_order found rest =
+    ap (put (codes "s") (array (texts_json ts))) rest ∙ put_back ms (array (texts_json ts)) in_order (sym found)

@@ -1,0 +1,51 @@
+-- Nodes written as JSON, place by place.
+use Rattle.std.proofs.Common.{◌≡◌, ℕ, ◌+◌, ◌<◌, ◌≤◌, List, [], ◌∷◌, ◌++◌, length, get_or, drop, take, map, true, refl, sym, ap, ◌∙◌, subst, ◌&&◌, Option, Some, None}
+use Rattle.std.proofs.Math.ListN.{drop_of_length-le}
+use Rattle.serde_json.specs.Data.{Data, string, object, Items, Members, no_members, member, put}
+use Rattle.serde_json.specs.View.{items_of}
+use Rattle.text_core.specs.declared.by_key.KeyValue.{KeyValue}
+use Rattle.text_core.specs.Keyed.{is_before, ascend, keys, on_value}
+use Rattle.text_core.proofs.Keyed.{both_of}
+use Rattle.diff_tree.specs.Spelling.{texts_json}
+use Rattle.diff_tree.specs.Parts.{part_data, place_data, part_step, place_step, places_json, with_statics, seen, node_data}
+use Rattle.diff_tree.specs.declared.part.Part.{Part, out-Part}
+use Rattle.diff_tree.specs.declared.part.PlaceValue.{PlaceValue}
+use Rattle.diff_tree.specs.declared.part.PlaceValue.TheFolds.{fold_out-Part}
+use Rattle.diff_tree.proofs.Order.{cons_at, names, join, join-none, join-join, put_last, names_last, put_first, chain, names-chain, keys-on_value}
+
+pub texts_json-map : (ts : List (List ℕ)) → items_of (map string ts) ≡ texts_json ts
+texts_json-map [] = refl
+texts_json-map (t ∷ ts) = rw (texts_json-map ts) refl
+
+-- entries in order are put each before those behind it
+pub places_json-chain : (es : List (KeyValue Data)) → ascend (keys es) ≡ true → places_json es ≡ chain es
+places_json-chain [] h = refl
+places_json-chain (e ∷ es) h =
+    let p = both_of (is_before e.key (keys es)) (ascend (keys es)) h in
+    ap (put e.key e.value) (places_json-chain es p.1) ∙ put_first e.key e.value (chain es) (subst (λ l. is_before e.key l ≡ true) (sym (names-chain es)) p.0)
+
+pub seen_in_order : (es : List (KeyValue PlaceValue)) → ascend (keys es) ≡ true → places_json (seen es) ≡ chain (seen es)
+seen_in_order es h = places_json-chain (seen es) (subst (λ l. ascend l ≡ true) (sym (keys-on_value place_data es)) h)
+
+-- one more place was written
+pub puts_on : (es : List (KeyValue PlaceValue)) (i : ℕ) (e : KeyValue PlaceValue) (ms : Members) (d : Data) (whole : Members) → i < length es → e ≡ get_or es i e
+    → d ≡ place_data e.value → ascend (names ms ++ keys (drop i es)) ≡ true → join ms (chain (seen (drop i es))) ≡ whole
+    → (join (put e.key d ms) (chain (seen (drop (i + 1) es))) ≡ whole) × (ascend (names (put e.key d ms) ++ keys (drop (i + 1) es)) ≡ true)
+puts_on es i e ms d whole h is written in_order so_far =
+    let rest : List (KeyValue PlaceValue) = drop (i + 1) es in
+    let front : drop i es ≡ e ∷ rest = cons_at es i e h is in
+    let ordered : ascend (names ms ++ e.key ∷ keys rest) ≡ true = subst (λ l. ascend (names ms ++ keys l) ≡ true) front in_order in
+    let last : put e.key d ms ≡ join ms (member e.key d no_members) = put_last e.key d ms (keys rest) ordered in (
+      ap (λ l. join l (chain (seen rest))) last ∙ join-join ms (member e.key d no_members) (chain (seen rest))
+          ∙ ap (λ v. join ms (member e.key v (chain (seen rest)))) written ∙ ap (λ l. join ms (chain (seen l))) (sym front) ∙ so_far,
+      ap (λ l. ascend (names l ++ keys rest)) last ∙ ap ascend (names_last ms e.key d (keys rest)) ∙ ordered,
+    )
+
+-- all places were written
+pub puts_all : (es : List (KeyValue PlaceValue)) (i : ℕ) (ms : Members) → length es ≤ i → ascend (keys es) ≡ true → join ms (chain (seen (drop i es))) ≡ chain (seen es) → ms ≡ places_json (seen es)
+puts_all es i ms h in_order so_far =
+    sym (join-none ms) ∙ ap (λ l. join ms (chain (seen l))) (sym (drop_of_length-le es h)) ∙ so_far ∙ sym (seen_in_order es in_order)
+
+-- a node, opened
+pub part_data-out : (p : Part) → part_data p ≡ node_data (out-Part p).statics (out-Part p).places
+part_data-out p = fold_out-Part Data Data place_step part_step p
