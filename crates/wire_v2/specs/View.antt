@@ -1,5 +1,5 @@
 -- What the program's messages stand for.
-use Rattle.std.specs.Prelude.{ℕ, Option, Some, None, ◌≢◌}
+use Rattle.std.specs.Prelude.{ℕ, Option, Some, None, Bool, true, nat_lt, IsTrue}
 use Rattle.value_core.specs.View.{view}
 use Rattle.wire_v2.specs.Message as model
 use Rattle.wire_v2.specs.declared.head.MessageHead.{MessageHead}
@@ -29,10 +29,19 @@ message_view (message.Patch h url) = model.patch (head_view h) url
 message_view (message.WillDestroy h) = model.will_destroy (head_view h)
 message_view (message.Destroyed h) = model.destroyed (head_view h)
 
--- the component that an event names; a component has no number 0
-abbrev pub cid_of : Message → Option ℕ
-cid_of (message.Event h name v cid) = cid
-cid_of _ = None
+-- components are counted from 1
+abbrev pub is_component : Option ℕ → Bool
+is_component None = true
+is_component (Some n) = nat_lt 0 n
+
+-- what an event names is a component, if it names one
+abbrev pub names_component : Message → Bool
+names_component (message.Event h name v cid) = is_component cid
+names_component _ = true
 
 abbrev pub NamesComponent : Message → Type 0
-NamesComponent m = cid_of m ≢ Some 0
+NamesComponent m = IsTrue (names_component m)
+
+abbrev pub IfReadNames : Option Message → Type 0
+IfReadNames None = Unit {0}
+IfReadNames (Some m) = NamesComponent m

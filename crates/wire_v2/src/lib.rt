@@ -4,7 +4,10 @@
 mod event;
 mod head;
 mod message;
+mod payload;
+#[cfg(test)]
+mod tests;
 
 pub use event::EventValue;
 pub use head::MessageHead;
-pub use message::{Message, MessageFault};
+pub use message::{Message, MessageFault, read_message};

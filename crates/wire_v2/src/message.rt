@@ -1,13 +1,13 @@
 //! The messages that a browser sends.
-ghost use Rattle.std.specs.Prelude.{◌≡◌, ◌≢◌, Some, None, codes, IfOk, IsErrOf, option_map};
+ghost use Rattle.std.specs.Prelude.{◌≡◌, Some, None, codes, IfOk, IsErrOf, option_map};
 ghost use Rattle.serde_json.specs.Data.{array};
-ghost use Rattle.serde_json.specs.Find.{get};
 ghost use Rattle.serde_json.specs.View.{view, items_view};
-ghost use Rattle.wire_v2.specs.Message.{all_whole, event_message, has_numbers, is_live_topic, is_whole, live_message, message_by_topic, message_from, message_of, message_of_json, text_at, url_of};
-ghost use Rattle.wire_v2.specs.View.{head_view, message_view, number_of, NamesComponent};
+ghost use Rattle.wire_v2.specs.Message.{destroyed, event_message, if_numbers, is_live_topic, join, live_message, message_by_topic, message_from, message_of, message_of_json, patch, text_at, url_of, will_destroy};
+ghost use Rattle.wire_v2.specs.View.{head_view, message_view, NamesComponent, IfReadNames};
 
-use crate::event::{EventValue, component_number, event_value};
+use crate::event::{EventValue, component_number, component_of, event_value};
 use crate::head::{MessageHead, head_of};
+use crate::payload::{has_numbers, text_at, url_of};
 use serde_json::Value as Json;
 use std::alloc::Global;
 use text_core::{OutOfMemory, Text};
@@ -63,20 +63,101 @@ impl From<OutOfMemory> for MessageFault {
     }
 }
 
-// The text under a name of the payload.
-fn text_at<'a>(payload: &'a Json, name: &str) -> Option<&'a str>
-    ensures { option_map (λ x. x.now) result ≡ text_at name.now (view payload.entry.now) }
+fn join(alloc: Global, head: MessageHead, payload: &Json) -> Result<Option<Message>, OutOfMemory>
+    ensures is { IfOk result (λ m. option_map message_view m ≡ option_map (join (head_view head)) (url_of (view payload.now))) }
+    ensures names { IfOk result IfReadNames }
 {
-    payload.get(name).and_then(Json::as_str)
+    match url_of(payload) {
+        Some(url) => Ok(Some(Message::Join {
+            head,
+            url: Text::copy_of(alloc, url)?,
+        })),
+        None => Ok(None),
+    }
 }
 
-// `url`, or else `redirect`.
-fn url_of(payload: &Json) -> Option<&str>
-    ensures { option_map (λ x. x.now) result ≡ url_of (view payload.entry.now) }
+fn patch(alloc: Global, head: MessageHead, payload: &Json) -> Result<Option<Message>, OutOfMemory>
+    ensures is { IfOk result (λ m. option_map message_view m ≡ option_map (patch (head_view head)) (text_at (codes "url") (view payload.now))) }
+    ensures names { IfOk result IfReadNames }
 {
     match text_at(payload, "url") {
-        Some(url) => Some(url),
-        None => text_at(payload, "redirect"),
+        Some(url) => Ok(Some(Message::Patch {
+            head,
+            url: Text::copy_of(alloc, url)?,
+        })),
+        None => Ok(None),
+    }
+}
+
+// What may refuse comes first: then nothing that was copied is thrown away.
+fn event_message(
+    alloc: Global,
+    head: MessageHead,
+    payload: &Json,
+) -> Result<Option<Message>, OutOfMemory>
+    ensures is { IfOk result (λ m. option_map message_view m ≡ event_message (head_view head) (view payload.now)) }
+    ensures names { IfOk result IfReadNames }
+{
+    let Some(kind) = text_at(payload, "type") else {
+        return Ok(None);
+    };
+    let Some(event) = text_at(payload, "event") else {
+        return Ok(None);
+    };
+    let Some(number) = component_number(payload) else {
+        return Ok(None);
+    };
+    let Some(value) = event_value(alloc, kind, payload)? else {
+        return Ok(None);
+    };
+    Ok(Some(Message::Event {
+        head,
+        event: Text::copy_of(alloc, event)?,
+        value,
+        cid: component_of(number),
+    }))
+}
+
+fn will_destroy(head: MessageHead, payload: &Json) -> Option<Message>
+    ensures is { option_map message_view result ≡ if_numbers (will_destroy (head_view head)) (view payload.now) }
+    ensures names { IfReadNames result }
+{
+    if has_numbers(payload) {
+        Some(Message::WillDestroy(head))
+    } else {
+        None
+    }
+}
+
+fn destroyed(head: MessageHead, payload: &Json) -> Option<Message>
+    ensures is { option_map message_view result ≡ if_numbers (destroyed (head_view head)) (view payload.now) }
+    ensures names { IfReadNames result }
+{
+    if has_numbers(payload) {
+        Some(Message::Destroyed(head))
+    } else {
+        None
+    }
+}
+
+// The message of a page, by its event.
+fn live_message(
+    alloc: Global,
+    head: MessageHead,
+    event: &str,
+    payload: &Json,
+) -> Result<Option<Message>, OutOfMemory>
+    ensures is { IfOk result (λ m. option_map message_view m ≡ live_message (head_view head) event.now (view payload.now)) }
+    ensures names { IfOk result IfReadNames }
+{
+    match event {
+        "phx_join" => join(alloc, head, payload),
+        "phx_leave" => Ok(Some(Message::Leave(head))),
+        "event" => event_message(alloc, head, payload),
+        "live_patch" => patch(alloc, head, payload),
+        "cids_will_destroy" => Ok(will_destroy(head, payload)),
+        "cids_destroyed" => Ok(destroyed(head, payload)),
+        _ => Ok(None),
     }
 }
 
@@ -90,24 +171,101 @@ fn is_live_topic(topic: &str) -> bool
     &topic.as_bytes()[..3] == b"lv:".as_slice()
 }
 
-fn is_whole(item: &Json) -> bool
-    ensures { result ≡ is_whole (view item.now) }
+// The message, by its topic and its event.
+fn message_by_topic(
+    alloc: Global,
+    head: MessageHead,
+    event: &str,
+    payload: &Json,
+) -> Result<Option<Message>, OutOfMemory>
+    ensures is { IfOk result (λ m. option_map message_view m ≡ message_by_topic (head_view head) event.now (view payload.now)) }
+    ensures names { IfOk result IfReadNames }
 {
-    item.is_u64() || item.is_i64()
+    if head.topic.as_str() == "phoenix" && event == "heartbeat" {
+        return Ok(Some(Message::Beat(head)));
+    }
+    if is_live_topic(head.topic.as_str()) {
+        return live_message(alloc, head, event, payload);
+    }
+    Ok(None)
 }
 
-fn all_whole(items: &[Json]) -> bool
-    ensures { result ≡ all_whole (items_view items.now) }
+fn message_from(
+    alloc: Global,
+    join_ref: &Json,
+    reference: &Json,
+    topic: &Json,
+    event: &Json,
+    payload: &Json,
+) -> Result<Option<Message>, OutOfMemory>
+    ensures is { IfOk result (λ m. option_map message_view m ≡ message_from (view join_ref.now) (view reference.now) (view topic.now) (view event.now) (view payload.now)) }
+    ensures names { IfOk result IfReadNames }
 {
-    items.iter().all(is_whole)
+    let Some(event) = event.as_str() else {
+        return Ok(None);
+    };
+    if !payload.is_object() {
+        return Ok(None);
+    }
+    match head_of(alloc, join_ref, reference, topic)? {
+        Some(head) => message_by_topic(alloc, head, event, payload),
+        None => Ok(None),
+    }
 }
 
-// Whether `cids` is a list of whole numbers.
-fn has_numbers(payload: &Json) -> bool
-    ensures { result ≡ has_numbers (get (codes "cids") (view payload.now)) }
+// A message has five items.
+fn message_of_items(alloc: Global, items: &[Json]) -> Result<Option<Message>, OutOfMemory>
+    ensures is { IfOk result (λ m. option_map message_view m ≡ message_of_json (array (items_view items.now))) }
+    ensures names { IfOk result IfReadNames }
 {
-    match payload.get("cids").and_then(Json::as_array) {
-        Some(items) => all_whole(items.as_slice()),
-        None => false,
+    match items {
+        [join_ref, reference, topic, event, payload] => {
+            message_from(alloc, join_ref, reference, topic, event, payload)
+        }
+        _ => Ok(None),
+    }
+}
+
+fn message_of_json(alloc: Global, json: &Json) -> Result<Option<Message>, OutOfMemory>
+    ensures is { IfOk result (λ m. option_map message_view m ≡ message_of_json (view json.now)) }
+    ensures names { IfOk result IfReadNames }
+{
+    match json.as_array() {
+        Some(items) => message_of_items(alloc, items.as_slice()),
+        None => Ok(None),
+    }
+}
+
+// The message that bytes spell, if they spell one.
+fn message_of(alloc: Global, text: &[u8]) -> Result<Option<Message>, OutOfMemory>
+    ensures is { IfOk result (λ m. option_map message_view m ≡ message_of text.now) }
+    ensures names { IfOk result IfReadNames }
+{
+    match Json::from_slice(alloc, text) {
+        Ok(json) => message_of_json(alloc, &json),
+        Err(fault) => {
+            if fault.is_memory() {
+                Err(OutOfMemory)
+            } else {
+                Ok(None)
+            }
+        }
+    }
+}
+
+/// The message that the bytes spell: a JSON text in UTF-8, an array of join reference and
+/// reference (each a text or null), topic, event and a payload, an object. The topic `phoenix` has
+/// `heartbeat`; a topic of a page, `lv:` and more, has `phx_join`, `phx_leave`, `event`,
+/// `live_patch`, `cids_will_destroy` and `cids_destroyed` (Phoenix Channels V2). Members that these
+/// do not name are not looked at, and of a member written twice the last holds. It answers Malformed
+/// exactly where the bytes spell no message.
+pub fn read_message(alloc: Global, text: &[u8]) -> Result<Message, MessageFault>
+    ensures ok { IfOk result (λ m. message_of text.now ≡ Some (message_view m)) }
+    ensures names { IfOk result NamesComponent }
+    ensures malformed { IsErrOf result MessageFault.Malformed → message_of text.now ≡ None }
+{
+    match message_of(alloc, text)? {
+        Some(message) => Ok(message),
+        None => Err(MessageFault::Malformed),
     }
 }
