@@ -4,3 +4,4 @@ mod Stored
 mod ReadsBack
 mod Written
 mod Taken
+mod Spelled

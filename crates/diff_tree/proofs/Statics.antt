@@ -9,8 +9,12 @@ use Rattle.serde_json.specs.Data.{Data, Members, no_members, member, put}
 use Rattle.serde_json.specs.Find.{get_member}
 use Rattle.text_core.specs.Keyed.{is_before, ascend}
 use Rattle.text_core.proofs.Keyed.{order, both_of}
-use Rattle.diff_tree.specs.Grammar.{without_statics}
 use Rattle.diff_tree.proofs.Order.{names, before_rest, put_first, absent, apart_back}
+
+-- the members but `s`
+abbrev pub without_statics : Members → Members
+without_statics no_members = no_members
+without_statics (member k d ms) = if bytes_eq k (codes "s") then without_statics ms else member k d (without_statics ms)
 
 abbrev s_key : List ℕ
 s_key = codes "s"

@@ -1,5 +1,5 @@
 -- Nodes read from JSON, member by member.
-use Rattle.std.proofs.Common.{◌≡◌, ℕ, zero, suc, ◌+◌, ◌-◌, ◌<◌, ◌≤◌, ◌==◌, List, [], ◌∷◌, ◌++◌, length, get_or, drop, map, String, string_bytes, Global, Bool, true, false, ◌&&◌, ◌||◌, if◌then◌else◌, Option, Some, None, option_map, is_some, refl, sym, ap, ◌∙◌, subst, arith, nat_cmp, codes, decimal, ◌⊎◌, inl, inr}
+use Rattle.std.proofs.Common.{◌≡◌, ◌≢◌, ℕ, zero, suc, ◌+◌, ◌-◌, ◌<◌, ◌≤◌, ◌==◌, List, [], ◌∷◌, ◌++◌, length, get_or, drop, map, String, string_bytes, Global, Bool, true, false, ◌&&◌, ◌||◌, if◌then◌else◌, Option, Some, None, option_map, is_some, refl, sym, ap, ◌∙◌, subst, arith, nat_cmp, codes, decimal, ◌⊎◌, inl, inr}
 use Rattle.std.specs.List.{AllByRecursion}
 use Rattle.std.specs.List.Sorted.{IsStrictlySortedBy}
 use Rattle.std.specs.Ordering.{is_lt}
@@ -7,6 +7,7 @@ use Rattle.std.specs.Str.{bytes_eq}
 use Rattle.std.specs.Cmp.Lexicographic.{slice_cmp}
 use Rattle.std.proofs.Math.ListN.{drop_of_length-le}
 use Rattle.std.proofs.lemmas.List.{map-append}
+use Rattle.std.proofs.lemmas.Bool.Decides.{eqb_tells}
 use Rattle.serde_json.specs.Data.{Data, null, boolean, number, string, array, object, Items, no_items, item, Members, no_members, member, put}
 use Rattle.serde_json.specs.Events.{items_len, members_len}
 use Rattle.serde_json.specs.Find.{get, get_member, as_str, as_array, as_object}
@@ -16,10 +17,10 @@ use Rattle.text_core.specs.declared.by_key.KeyValue.{KeyValue}
 use Rattle.text_core.specs.Keyed.{is_before, ascend, keys, entry, on_value}
 use Rattle.diff_tree.specs.Spelling.{texts_json}
 use Rattle.diff_tree.specs.Parts.{place_data, places_json, with_statics, seen}
-use Rattle.diff_tree.specs.Grammar.{are_texts, count_of, has_places, are_statics, statics_fit, is_diff, are_places, is_place, is_value, without_statics}
+use Rattle.diff_tree.specs.Grammar.{are_texts, count_of, has_places, are_statics, statics_fit, is_diff, are_places, is_place, is_value, surround, Completes}
 use Rattle.diff_tree.specs.declared.part.PlaceValue.{PlaceValue}
 use Rattle.diff_tree.proofs.Order.{cons_at, names, join, join-none, join-join, chain, chain-snoc}
-use Rattle.diff_tree.proofs.Statics.{put_back, none_out}
+use Rattle.diff_tree.proofs.Statics.{without_statics, put_back, none_out}
 use Rattle.diff_tree.proofs.Written.{seen_in_order}
 
 abbrev Json : Type 0
@@ -108,18 +109,22 @@ counted_none (string s) h = refl
 counted_none (array ds) h = refl
 counted_none (object ms) h = cc
 
+pub is_some-map : {A B : Type 0} (f : A → B) (o : Option A) → is_some (option_map f o) ≡ is_some o
+is_some-map f None = refl
+is_some-map f (Some x) = refl
+
 -- a place is lacking
 pub lacks : (n k : ℕ) (d : Data) → k < n → is_some (get (decimal k) d) ≡ false → has_places n d ≡ false
 lacks zero k d h none = absurd (omega arith)
-lacks (suc n) k d h none = by (omega arith) (λ g. lacks n k d g none)
+lacks (suc n) k d h none = by (eqb_tells k n) (λ g. lacks n k d g none)
   where
     and_false : (b : Bool) → (b && false) ≡ false
     and_false true = refl
     and_false false = refl
 
-    by : (k ≡ n) ⊎ (k < n) → (k < n → has_places n d ≡ false) → has_places (suc n) d ≡ false
-    by (inl same) rest = ap (λ m. is_some (get (decimal m) d) && has_places n d) (sym same) ∙ ap (λ b. b && has_places n d) none
-    by (inr below) rest = ap (λ b. is_some (get (decimal n) d) && b) (rest below) ∙ and_false (is_some (get (decimal n) d))
+    by : ((k == n ≡ true) × (k ≡ n)) ⊎ ((k == n ≡ false) × (k ≢ n)) → (k < n → has_places n d ≡ false) → has_places (suc n) d ≡ false
+    by (inl same) rest = ap (λ m. is_some (get (decimal m) d) && has_places n d) (sym same.1) ∙ ap (λ b. b && has_places n d) none
+    by (inr other) rest = let apart = other.1 in ap (λ b. is_some (get (decimal n) d) && b) (rest (omega arith)) ∙ and_false (is_some (get (decimal n) d))
 
 -- ---- places
 
@@ -184,20 +189,40 @@ places_not k j js whole h none so_far =
     let p : Bool = is_place (string_bytes k) && is_value (view j) in
     sym so_far ∙ ap (λ s. (s || p) && are_places (members_view js)) h ∙ ap (λ b. b && are_places (members_view js)) none
 
--- all places were read
-pub places_all : (es : List (KeyValue PlaceValue)) (ms : List (String Global × Json)) → ascend (keys es ++ []) ≡ true
-    → join (chain (seen es)) no_members ≡ without_statics (members_view ms) → places_json (seen es) ≡ without_statics (members_view ms)
-places_all es ms in_order so_far = seen_in_order es (subst (λ l. ascend l ≡ true) (none_behind (keys es)) in_order) ∙ sym (join-none (chain (seen es))) ∙ so_far
-  where
-    none_behind : (xs : List (List ℕ)) → xs ++ [] ≡ xs
-    none_behind [] = refl
-    none_behind (x ∷ xs) = ap (λ l. x ∷ l) (none_behind xs)
-
--- ---- the whole node
-
--- statics found at `s` go back to their place
-pub whole_node : (ms : Members) (st : Option (List (List ℕ))) (places : Members) → ascend (names ms) ≡ true → option_map (λ ts. array (texts_json ts)) st ≡ get_member (codes "s") ms
+-- with its statics the node is whole
+whole_node : (ms : Members) (st : Option (List (List ℕ))) (places : Members) → ascend (names ms) ≡ true → option_map (λ ts. array (texts_json ts)) st ≡ get_member (codes "s") ms
     → places ≡ without_statics ms → with_statics st places ≡ ms
 whole_node ms None places in_order found rest = rest ∙ none_out ms in_order (sym found)
 whole_node ms (Some ts) places in_order found rest =
     ap (put (codes "s") (array (texts_json ts))) rest ∙ put_back ms (array (texts_json ts)) in_order (sym found)
+
+none_behind : (xs : List (List ℕ)) → xs ++ [] ≡ xs
+none_behind [] = refl
+none_behind (x ∷ xs) = ap (λ l. x ∷ l) (none_behind xs)
+
+-- all places were read
+pub places_all : (es : List (KeyValue PlaceValue)) (ms : List (String Global × Json)) → ascend (keys es ++ []) ≡ true → ascend (member_keys ms) ≡ true
+    → join (chain (seen es)) no_members ≡ without_statics (members_view ms) → Completes es (members_view ms)
+places_all es ms in_order ordered so_far st found =
+    let keys_are : ascend (keys es) ≡ true = subst (λ l. ascend l ≡ true) (none_behind (keys es)) in_order in
+    let names_are : ascend (names (members_view ms)) ≡ true = ap ascend (names-view ms) ∙ ordered in
+    whole_node (members_view ms) st (places_json (seen es)) names_are found (seen_in_order es keys_are ∙ sym (join-none (chain (seen es))) ∙ so_far)
+
+-- ---- statics
+
+is_array : (d : Data) (ds : Items) → Some ds ≡ as_array d → d ≡ array ds
+is_array null ds h = cc
+is_array (boolean b) ds h = cc
+is_array (number n) ds h = cc
+is_array (string s) ds h = cc
+is_array (array es) ds h = cc
+is_array (object ms) ds h = cc
+
+-- texts are statics where they stand around the places
+pub around : (d whole : Data) (js : List Json) → Some (items_view js) ≡ as_array d → are_texts (items_view js) ≡ true → are_statics (Some d) whole ≡ surround (length js) whole
+around d whole js is texts =
+    ap (λ x. are_statics (Some x) whole) (is_array d (items_view js) is) ∙ ap (λ b. b && surround (items_len (items_view js)) whole) texts
+    ∙ ap (λ n. surround n whole) (items_len-view js)
+
+pub texts_are : (d : Data) (js : List Json) (ts : List (List ℕ)) → Some (items_view js) ≡ as_array d → texts_json ts ≡ items_view js → array (texts_json ts) ≡ d
+texts_are d js ts is same = ap array same ∙ sym (is_array d (items_view js) is)

@@ -1,15 +1,18 @@
 -- Which JSON values are diffs, and how a diff is spelled.
-use Rattle.std.specs.Prelude.{◌≡◌, ◌≤◌, ◌-◌, ◌==◌, ◌&&◌, ◌||◌, ℕ, zero, suc, List, [], ◌∷◌, length, Bool, true, false, if◌then◌else◌, Option, Some, None, is_some, codes}
+use Rattle.std.specs.Prelude.{◌≡◌, ◌≤◌, ◌-◌, ◌==◌, ◌&&◌, ◌||◌, ℕ, zero, suc, List, [], ◌∷◌, length, Bool, true, false, if◌then◌else◌, Option, Some, None, is_some, option_map, codes}
 use Rattle.std.specs.Fmt.{decimal}
 use Rattle.std.specs.List.{list_all}
 use Rattle.std.specs.Char.{is_ascii_digit}
 use Rattle.std.specs.Str.{bytes_eq}
 use Rattle.serde_json.specs.Data.{Data, string, array, object, Items, no_items, item, Members, no_members, member, depth}
 use Rattle.serde_json.specs.Events.{items_len, members_len}
-use Rattle.serde_json.specs.Find.{get}
+use Rattle.serde_json.specs.Find.{get, get_member}
 use Rattle.serde_json.specs.Written.{compact_text}
 use Rattle.diff_tree.specs.declared.part.Diff.{Diff}
-use Rattle.diff_tree.specs.Parts.{diff_data}
+use Rattle.diff_tree.specs.declared.part.PlaceValue.{PlaceValue}
+use Rattle.text_core.specs.declared.by_key.KeyValue.{KeyValue}
+use Rattle.diff_tree.specs.Spelling.{texts_json}
+use Rattle.diff_tree.specs.Parts.{diff_data, places_json, with_statics, seen}
 
 -- a decimal with no zero in front
 abbrev pub is_place : List ℕ → Bool
@@ -63,11 +66,10 @@ abbrev mutual
 abbrev pub SpellsDiff : List ℕ → Diff → Type 0
 SpellsDiff text d = (is_diff (diff_data d) ≡ true) × (text ≡ compact_text (diff_data d))
 
+-- with the statics of an object these places make it whole
+abbrev pub Completes : List (KeyValue PlaceValue) → Members → Type 0
+Completes es ms = (st : Option (List (List ℕ))) → option_map (λ ts. array (texts_json ts)) st ≡ get_member (codes "s") ms → with_statics st (places_json (seen es)) ≡ ms
+
 -- a text spells one diff
 abbrev pub SpellOne : Type 0
 SpellOne = (text : List ℕ) (a b : Diff) → depth (diff_data a) ≤ 127 → depth (diff_data b) ≤ 127 → SpellsDiff text a → SpellsDiff text b → diff_data a ≡ diff_data b
-
--- the members but `s`
-abbrev pub without_statics : Members → Members
-without_statics no_members = no_members
-without_statics (member k d ms) = if bytes_eq k (codes "s") then without_statics ms else member k d (without_statics ms)

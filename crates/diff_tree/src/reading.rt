@@ -1,15 +1,16 @@
 //! Diffs read from their texts and from JSON values.
-ghost use Rattle.std.specs.Prelude.{◌≡◌, ◌≤◌, ◌&&◌, true, false, Some, None, IfOk, IsErrOf, option_map, codes};
+ghost use Rattle.std.specs.Prelude.{◌≡◌, ◌≤◌, ◌↔◌, ◌&&◌, IsTrue, true, false, Some, None, IfOk, IsErrOf, option_map, codes};
 ghost use Rattle.std.specs.List.{list_all};
 ghost use Rattle.std.specs.Char.{is_ascii_digit};
 ghost use Rattle.serde_json.specs.Data.{Data, array, depth};
 ghost use Rattle.serde_json.specs.Find.{get};
 ghost use Rattle.serde_json.specs.Read.{read};
+ghost use Rattle.serde_json.specs.Written.{compact_text};
 ghost use Rattle.serde_json.specs.View.{view, items_view, members_view};
 ghost use Rattle.diff_tree.specs.declared.part.Diff.{Diff};
 ghost use Rattle.diff_tree.specs.Spelling.{texts_json};
-ghost use Rattle.diff_tree.specs.Parts.{part_data, place_data, diff_data, places_json, seen};
-ghost use Rattle.diff_tree.specs.Grammar.{is_place, are_texts, count_of, has_places, surround, are_statics, statics_fit, is_diff, are_places, is_value, SpellsDiff, without_statics};
+ghost use Rattle.diff_tree.specs.Parts.{part_data, place_data, diff_data};
+ghost use Rattle.diff_tree.specs.Grammar.{is_place, are_texts, count_of, has_places, surround, are_statics, statics_fit, is_diff, are_places, is_value, Completes, SpellsDiff};
 
 use crate::{Diff, DiffFault, Part, PlaceValue, write_diff};
 use serde_json::{Map, Value};
@@ -22,13 +23,27 @@ pub fn read_diff(alloc: Global, text: &str) -> Result<Diff, DiffFault>
     ensures ok { IfOk result (λ d. SpellsDiff text.now d × (depth (diff_data d) ≤ 127)) }
     ensures bad { IsErrOf result DiffFault.BadDiff → (d : Diff) → depth (diff_data d) ≤ 127 → ¬ SpellsDiff text.now d }
 {
-    let value = value_of(alloc, text)?;
-    let diff = read_diff_value(alloc, &value)?;
-    let spelled = write_diff(alloc, &diff)?;
-    if spelled.as_str() != text {
+    let diff = parse(alloc, text)?;
+    if !is_text_of(alloc, text, &diff)? {
         return Err(DiffFault::BadDiff);
     }
     Ok(diff)
+}
+
+fn is_text_of(alloc: Global, text: &str, diff: &Diff) -> Result<bool, OutOfMemory>
+    ensures { IfOk result (λ b. IsTrue b ↔ (text.now ≡ compact_text (diff_data diff.now))) }
+{
+    let spelled = write_diff(alloc, diff)?;
+    Ok(text == spelled.as_str())
+}
+
+// The diff that the JSON value of a text is, however it is spelled.
+fn parse(alloc: Global, text: &str) -> Result<Diff, DiffFault>
+    ensures ok { IfOk result (λ d. (is_diff (diff_data d) ≡ true) × (read text.now ≡ Some (diff_data d)) × (depth (diff_data d) ≤ 127)) }
+    ensures bad { IsErrOf result DiffFault.BadDiff → (d : Data) → read text.now ≡ Some d → is_diff d ≡ false }
+{
+    let value = value_of(alloc, text)?;
+    read_diff_value(alloc, &value)
 }
 
 /// The diff that a JSON value is.
@@ -72,7 +87,7 @@ fn read_part(alloc: Global, value: &Value) -> Result<Part, DiffFault>
 
 #[cycle(read)]
 fn read_places(alloc: Global, members: &Map<String, Value>) -> Result<ByKey<PlaceValue>, DiffFault>
-    ensures ok { IfOk result (λ es. (are_places (members_view members.now.entries) ≡ true) × (places_json (seen es) ≡ without_statics (members_view members.now.entries))) }
+    ensures ok { IfOk result (λ es. (are_places (members_view members.now.entries) ≡ true) × Completes es (members_view members.now.entries)) }
     ensures bad { IsErrOf result DiffFault.BadDiff → are_places (members_view members.now.entries) ≡ false }
 {
     let mut places = ByKey::new(alloc);
@@ -139,7 +154,8 @@ fn statics_around(alloc: Global, value: &Value, statics: &Value) -> Result<Names
     let Some(items) = statics.as_array() else {
         return Err(DiffFault::BadDiff);
     };
-    let texts = read_texts(alloc, items.as_slice())?;
+    let items = items.as_slice();
+    let texts = read_texts(alloc, items)?;
     if !surround(alloc, value, items.len())? {
         return Err(DiffFault::BadDiff);
     }

@@ -2,8 +2,9 @@ use Rattle.std.proofs.Common.{◌≡◌, ◌++◌, true}
 use Rattle.serde_json.specs.View.{members_view}
 use Rattle.text_core.specs.Keyed.{keys, ascend}
 use Rattle.diff_tree.specs.Parts.{seen}
-use Rattle.diff_tree.specs.Grammar.{are_places, without_statics}
+use Rattle.diff_tree.specs.Grammar.{are_places}
 use Rattle.diff_tree.proofs.Order.{join, chain}
+use Rattle.diff_tree.proofs.Statics.{without_statics}
 use Rattle.diff_tree.proofs.Taken.{member_keys}
 use Rattle.diff_tree.proofs.reading.+read.Given as goal
 
