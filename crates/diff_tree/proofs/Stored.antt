@@ -7,7 +7,6 @@ use Rattle.serde_json.specs.Data.{Num, unsigned, negative, float, Data, null, bo
 use Rattle.serde_json.specs.Written.{has_float, items_have_float, members_have_float}
 use Rattle.text_core.specs.declared.by_key.KeyValue.{KeyValue}
 use Rattle.text_core.specs.Keyed.{on_value}
-use Rattle.std.proofs.lemmas.Map.Lookups.{exact_bytes}
 use Rattle.diff_tree.specs.Spelling.{texts_json}
 use Rattle.diff_tree.specs.Parts.{part_data, place_data, part_step, place_step, places_json, with_statics, seen}
 use Rattle.diff_tree.specs.declared.part.Part.{Part}

@@ -1,13 +1,13 @@
 -- Nodes written as JSON, place by place.
-use Rattle.std.proofs.Common.{◌≡◌, ℕ, ◌+◌, ◌<◌, ◌≤◌, List, [], ◌∷◌, ◌++◌, length, get_or, drop, take, map, true, refl, sym, ap, ◌∙◌, subst, ◌&&◌, Option, Some, None}
+use Rattle.std.proofs.Common.{◌≡◌, ℕ, ◌+◌, ◌<◌, ◌≤◌, List, [], ◌∷◌, ◌++◌, length, get_or, drop, map, true, refl, sym, ap, ◌∙◌, subst}
 use Rattle.std.proofs.Math.ListN.{drop_of_length-le}
-use Rattle.serde_json.specs.Data.{Data, string, object, Items, Members, no_members, member, put}
+use Rattle.serde_json.specs.Data.{Data, string, Members, no_members, member, put}
 use Rattle.serde_json.specs.View.{items_of}
 use Rattle.text_core.specs.declared.by_key.KeyValue.{KeyValue}
-use Rattle.text_core.specs.Keyed.{is_before, ascend, keys, on_value}
+use Rattle.text_core.specs.Keyed.{is_before, ascend, keys}
 use Rattle.text_core.proofs.Keyed.{both_of}
 use Rattle.diff_tree.specs.Spelling.{texts_json}
-use Rattle.diff_tree.specs.Parts.{part_data, place_data, part_step, place_step, places_json, with_statics, seen, node_data}
+use Rattle.diff_tree.specs.Parts.{part_data, place_data, part_step, place_step, places_json, seen, node_data}
 use Rattle.diff_tree.specs.declared.part.Part.{Part, out-Part}
 use Rattle.diff_tree.specs.declared.part.PlaceValue.{PlaceValue}
 use Rattle.diff_tree.specs.declared.part.PlaceValue.TheFolds.{fold_out-Part}

@@ -5,6 +5,8 @@ mod fault;
 mod laws;
 mod part;
 mod reading;
+#[cfg(test)]
+mod tests;
 mod writing;
 
 pub use fault::DiffFault;

@@ -1,4 +1,4 @@
-use Rattle.std.proofs.Common.{◌≡◌, ◌≤◌, ◌+◌, ◌++◌, ◌∷◌, [], ◌∙◌, ap, arith, length, drop}
+use Rattle.std.proofs.Common.{◌≤◌, ◌+◌, ◌++◌, ◌∷◌, [], ◌∙◌, ap, arith, length, drop}
 use Rattle.serde_json.specs.View.{items_view}
 use Rattle.diff_tree.specs.Spelling.{texts_json}
 use Rattle.diff_tree.proofs.Taken.{join_items, texts_on, are_on, texts_all, are_all}

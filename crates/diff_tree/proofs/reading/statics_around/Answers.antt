@@ -1,6 +1,5 @@
-use Rattle.std.proofs.Common.{◌≡◌, ◌∙◌, sym, ap, Bool, Some}
+use Rattle.std.proofs.Common.{◌∙◌, sym, ap, Some}
 use Rattle.serde_json.specs.View.{view, items_view}
-use Rattle.diff_tree.specs.Grammar.{surround}
 use Rattle.diff_tree.proofs.Taken.{around, texts_are}
 use Rattle.diff_tree.proofs.reading.statics_around.Goals as goal
 
