@@ -1,7 +1,7 @@
-mod Order
+pub mod Order
 mod Statics
-mod Stored
-mod ReadsBack
+pub mod Stored
+pub mod ReadsBack
 mod Written
 mod Taken
 mod Spelled
