@@ -5,8 +5,8 @@ pub mod Batches
 pub mod Looks
 mod Order
 mod Statics
-mod Stored
-mod ReadsBack
+pub mod Stored
+pub mod ReadsBack
 mod Written
 mod Taken
 mod Spelled

@@ -1,2 +1,4 @@
 pub mod Message
 pub mod View
+pub mod FrameData
+pub mod FrameLaws

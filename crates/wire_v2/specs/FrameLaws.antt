@@ -1,0 +1,28 @@
+-- The program's frames beside the frames of the definitions.
+use Rattle.std.specs.Prelude.{◌≡◌, [], map}
+use Rattle.diff_tree.specs.Client.{PageTree, PageDiff}
+use Rattle.diff_tree.specs.Frame as model
+use Rattle.diff_tree.specs.Spelling.{page_tree_json, page_diff_json}
+use Rattle.diff_tree.specs.Parts.{diff_data}
+use Rattle.wire_v2.specs.FrameData.{pushed_of, frame_data}
+use Rattle.wire_v2.specs.declared.frame.Frame.{Frame}
+use Rattle.wire_v2.specs.declared.frame.FrameBody.{FrameBody}
+use Rattle.wire_v2.specs.declared.frame.FrameBody.TheVariants as body
+
+-- the same form; a tree or a diff is one by its JSON value
+abbrev pub BodyStandsFor : FrameBody → model.FrameBody → Type 0
+BodyStandsFor body.Empty b = b ≡ model.empty
+BodyStandsFor (body.Rendered t es) b = (p : PageTree) × (diff_data t ≡ page_tree_json p []) × (b ≡ model.rendered p (map pushed_of es))
+BodyStandsFor (body.Changed d es) b = (p : PageDiff) × (diff_data d ≡ page_diff_json p []) × (b ≡ model.changed p (map pushed_of es))
+BodyStandsFor (body.Refusal reason) b = b ≡ model.refusal reason
+BodyStandsFor body.NoCids b = b ≡ model.no_cids
+BodyStandsFor (body.Pushed d es) b = (p : PageDiff) × (diff_data d ≡ page_diff_json p []) × (b ≡ model.push p (map pushed_of es))
+BodyStandsFor body.Closed b = b ≡ model.closed
+BodyStandsFor (body.Faulted reason) b = b ≡ model.faulted reason
+
+abbrev pub StandsFor : Frame → model.Frame → Type 0
+StandsFor f g = (f.join_ref ≡ g.join_reference) × (f.reference ≡ g.reference) × (f.topic ≡ g.topic) × BodyStandsFor f.body g.body
+
+-- a frame has the JSON value of the frame that it stands for
+abbrev pub FramesAgree : Type 0
+FramesAgree = (f : Frame) (g : model.Frame) → StandsFor f g → frame_data f ≡ model.frame_json g
