@@ -4,7 +4,8 @@ use Rattle.ast_core.specs.Syntax.{Template, Linked}
 use Rattle.ast_core.specs.Places.{streams_in, Once}
 use Rattle.doc_model.specs.Bundle.{template_in, site_of}
 use Rattle.doc_model.specs.Table.{Honest}
-use Rattle.doc_model.specs.Effects.{ViewMeaning, views_of}
+use Rattle.view_api.specs.Meaning.{ViewMeaning}
+use Rattle.doc_model.specs.Effects.{views_of}
 use Rattle.diff_tree.specs.Client.{PageTree}
 use Rattle.diff_tree.specs.Frame.{client_takes_all}
 use Rattle.doc_model.specs.Process.{World, Page}

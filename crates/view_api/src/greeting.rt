@@ -14,17 +14,14 @@ use value_core::{Assigns, Value};
 pub struct Greeting;
 
 impl Views for Greeting {
-    ghost mounts = { λ _ view _. if view == 0 then Some (assign_to (codes "greeting") (text (codes "hello")) ∷ []) else None };
-
-    ghost takes_params = { λ _ _ _ _. Some [] };
-
-    ghost takes_event = { λ _ _ _ _ _. None };
-
-    ghost takes_info = { λ _ _ message _. Some (push_event (codes "told") message ∷ []) };
-
-    ghost mounts_component = { λ _ _. None };
-
-    ghost updates_component = { λ _ _ _ _. None };
+    ghost meaning = { λ _. record {
+      mount = λ view _. if view == 0 then Some (assign_to (codes "greeting") (text (codes "hello")) ∷ []) else None;
+      handle_params = λ _ _ _. Some [];
+      handle_event = λ _ _ _ _. None;
+      handle_info = λ _ message _. Some (push_event (codes "told") message ∷ []);
+      mount_component = λ _. None;
+      update_component = λ _ _ _. None;
+    } };
 
     fn mount(&self, alloc: Global, view: u32, _params: &Value) -> Result<Effects, ViewFault> {
         if view != 0 {
