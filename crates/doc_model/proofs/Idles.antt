@@ -1,13 +1,13 @@
 -- Where nothing changed, the lean diff holds nothing.
-use Rattle.std.proofs.Common.{◌≡◌, ℕ, List, [], ◌∷◌, Option, Some, None, Bool, true, false, ◌&&◌, ◌==◌, if◌then◌else◌, refl, sym, ap, ◌∙◌}
+use Rattle.std.proofs.Common.{◌≡◌, ℕ, List, [], ◌∷◌, Option, Some, None, true, ◌&&◌, ◌==◌, if◌then◌else◌, refl, ap, ◌∙◌}
 use Rattle.std.proofs.lemmas.Bool.Decides.{Decides-eqb}
 use Rattle.value_core.specs.Value.{Value}
-use Rattle.diff_tree.specs.Tree.{text, number, node, Change, write, inner, batch, Changes, skip}
+use Rattle.diff_tree.specs.Tree.{text, number, node, Change, write, inner, batch, Changes}
 use Rattle.doc_model.specs.Environment.{same_option, same_reading}
 use Rattle.doc_model.specs.Trace.{Items, no_items, item, Item, met_text, met_nothing, met_branch, met_rows, met_call, met_slots, met_component, met_stream, Slots, no_slots, slot_of}
 use Rattle.doc_model.specs.Whole.{slots_tree, whole_places, whole_rows, whole_slots}
 use Rattle.doc_model.specs.Lean.{is_empty, unless_empty, option_change, rows_change, slot_count, lean_places, lean_place, lean_slots}
-use Rattle.doc_model.specs.Components.{Part, parts, part_at, AllOf, Distinct, lean_part, lean_parts, numbered}
+use Rattle.doc_model.specs.Components.{Part, parts, part_at, AllOf, lean_part, lean_parts, numbered}
 use Rattle.doc_model.specs.Laws.{Idle, IdleItem, IdleSlots, UnchangedSendsNothing}
 use Rattle.doc_model.proofs.Sames.{same_refl}
 use Rattle.doc_model.proofs.Pages.{all_found}
