@@ -1,6 +1,6 @@
 //! A walk over a template, which notes the names that it meets.
-ghost use Rattle.std.specs.Prelude.{◌≡◌, ◌≤◌, [], ◌∷◌, ◌++◌, OnOk, MatchOption, length, insert, take};
-ghost use Rattle.ast_core.specs.Free.{one_of, bound};
+ghost use Rattle.std.specs.Prelude.{◌≡◌, ◌≤◌, [], ◌∷◌, OnOk, MatchOption, length, insert};
+ghost use Rattle.ast_core.specs.Free.{one_of};
 ghost use Rattle.ast_core.specs.Syntax.{at, var};
 ghost use Rattle.ast_core.specs.Reads.{with_name};
 ghost use Rattle.ast_core.specs.NamesIn.{bound_by, all_bound, bound_by_key};

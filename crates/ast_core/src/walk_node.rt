@@ -1,8 +1,7 @@
 //! The names in nodes.
 ghost use Rattle.std.specs.Prelude.{◌≡◌, OnOk, ◌++◌, ◌∷◌};
-ghost use Rattle.ast_core.specs.Free.{without, free_nodes, free_attributes, free_inside, bound};
-ghost use Rattle.ast_core.specs.NodeView.{attributes_view, nodes_view, or_any};
-ghost use Rattle.ast_core.specs.NamesIn.{all_names, expr_reads, node_reads, place_reads, clause_reads, entry_reads, body_reads, attribute_reads, option_reads, bound_by};
+ghost use Rattle.ast_core.specs.Free.{without};
+ghost use Rattle.ast_core.specs.NamesIn.{all_names, node_reads, place_reads, clause_reads, entry_reads, body_reads, attribute_reads, option_reads, bound_by};
 ghost use Rattle.ast_core.specs.Walk.{met};
 
 use crate::walk::Walk;
