@@ -81,7 +81,7 @@ abbrev pub comes : List ℕ → Stepped
 comes topic = step_message chatting begin_state [] (join (head_with (Some (codes "1")) (Some (codes "1")) topic) (codes "/chat/lobby"))
 
 abbrev pub submits : List ℕ → List ℕ → Stepped
-submits topic t = step_message chatting (comes topic).state [] (event (head_with (Some (codes "1")) (Some (codes "2")) topic) (codes "save") (form_text t) 0)
+submits topic t = step_message chatting (comes topic).state [] (event (head_with (Some (codes "1")) (Some (codes "2")) topic) (codes "save") (form_text t) None)
 
 -- a mail of the topic
 abbrev pub receives : Stepped → List ℕ → Stepped

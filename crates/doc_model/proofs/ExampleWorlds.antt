@@ -102,12 +102,15 @@ head r = record { join_reference = Some (codes "1"); reference = Some r; topic =
 abbrev pub joined : World → Stepped
 joined w = step_message w begin_state [] (join (head (codes "1")) (codes "/"))
 
--- an event of a component (0 for the view) after this step, with the empty map as its value
+-- an event of the view, or of the component of a number, after this step, with the empty map as its value
+abbrev pub event_of : World → Stepped → List ℕ → Option ℕ → List ℕ → Stepped
+event_of w s r n name = step_message w s.state s.inbox (event (head r) name (plain_value (map_of no_assigns)) n)
+
 abbrev pub event_to : World → Stepped → List ℕ → ℕ → List ℕ → Stepped
-event_to w s r n name = step_message w s.state s.inbox (event (head r) name (plain_value (map_of no_assigns)) n)
+event_to w s r n name = event_of w s r (Some n) name
 
 abbrev pub event_after : World → Stepped → List ℕ → List ℕ → Stepped
-event_after w s r name = event_to w s r 0 name
+event_after w s r name = event_of w s r None name
 
 -- the frames as they are sent
 abbrev pub frames_text : Stepped → List (List ℕ)

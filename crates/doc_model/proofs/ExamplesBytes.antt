@@ -1,5 +1,5 @@
 -- Worked examples: the messages of a browser as they are spelled.
-use Rattle.std.proofs.Common.{◌≡◌, ℕ, List, Some, codes, refl}
+use Rattle.std.proofs.Common.{◌≡◌, ℕ, List, Some, None, codes, refl}
 use Rattle.std.specs.Float.Numeral.{scan_numeral}
 use Rattle.json.specs.Json.{items, members, value}
 use Rattle.json.specs.Lex.{lex, punctuate}
@@ -21,11 +21,11 @@ example_spelled_join : message_of join_bytes ≡ Some (join (head (codes "1")) (
 unfolding items members value lex punctuate content after_number word number_of scan_numeral
 example_spelled_join = rw (utf8 join_bytes refl) refl
 
-example_spelled_event : message_of event_bytes ≡ Some (event (head (codes "2")) (codes "inc") (plain_value (map_of no_assigns)) 0)
+example_spelled_event : message_of event_bytes ≡ Some (event (head (codes "2")) (codes "inc") (plain_value (map_of no_assigns)) None)
 unfolding items members value lex punctuate content after_number word number_of scan_numeral
 example_spelled_event = rw (utf8 event_bytes refl) refl
 
-example_spelled_component_event : message_of (codes "[\"1\",\"2\",\"lv:A\",\"event\",{\"cid\":2,\"event\":\"inc\",\"type\":\"click\",\"value\":{}}]") ≡ Some (event (head (codes "2")) (codes "inc") (plain_value (map_of no_assigns)) 2)
+example_spelled_component_event : message_of (codes "[\"1\",\"2\",\"lv:A\",\"event\",{\"cid\":2,\"event\":\"inc\",\"type\":\"click\",\"value\":{}}]") ≡ Some (event (head (codes "2")) (codes "inc") (plain_value (map_of no_assigns)) (Some 2))
 unfolding items members value lex punctuate content after_number word number_of scan_numeral
 example_spelled_component_event = rw (utf8 (codes "[\"1\",\"2\",\"lv:A\",\"event\",{\"cid\":2,\"event\":\"inc\",\"type\":\"click\",\"value\":{}}]") refl) refl
 

@@ -95,3 +95,8 @@ example_two_counters_again_rendered = refl
 example_two_counters_gone_frames : frames_text (event_to counters hidden (codes "4") 1 (codes "inc")) ≡ codes "[\"1\",\"4\",\"lv:A\",\"phx_reply\",{\"response\":{},\"status\":\"ok\"}]" ∷ []
 unfolding digits escape_byte
 example_two_counters_gone_frames = refl
+
+-- no component has the number 0
+example_two_counters_number_zero_frames : frames_text (event_to counters both (codes "2") 0 (codes "inc")) ≡ codes "[\"1\",\"2\",\"lv:A\",\"phx_reply\",{\"response\":{},\"status\":\"ok\"}]" ∷ []
+unfolding escape_byte
+example_two_counters_number_zero_frames = refl

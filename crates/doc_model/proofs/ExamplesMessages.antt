@@ -62,12 +62,12 @@ unfolding items members value lex punctuate content after_number word number_of 
 example_malformed_and_stale_name_is_no_text = rw (utf8 name_is_no_text refl) refl
 
 -- one spells a message of another join
-example_malformed_and_stale_of_another_join : message_of of_another_join ≡ Some (event (head_with (Some (codes "0")) (Some (codes "2")) (codes "lv:A")) (codes "inc") (plain_value (map_of no_assigns)) 0)
+example_malformed_and_stale_of_another_join : message_of of_another_join ≡ Some (event (head_with (Some (codes "0")) (Some (codes "2")) (codes "lv:A")) (codes "inc") (plain_value (map_of no_assigns)) None)
 unfolding items members value lex punctuate content after_number word number_of scan_numeral
 example_malformed_and_stale_of_another_join = rw (utf8 of_another_join refl) refl
 
 -- and one a message to a component that does not live
-example_malformed_and_stale_no_component : message_of no_component ≡ Some (event (head_with (Some (codes "1")) (Some (codes "2")) (codes "lv:A")) (codes "inc") (plain_value (map_of no_assigns)) 99)
+example_malformed_and_stale_no_component : message_of no_component ≡ Some (event (head_with (Some (codes "1")) (Some (codes "2")) (codes "lv:A")) (codes "inc") (plain_value (map_of no_assigns)) (Some 99))
 unfolding items members value lex punctuate content after_number word number_of scan_numeral
 example_malformed_and_stale_no_component = rw (utf8 no_component refl) refl
 

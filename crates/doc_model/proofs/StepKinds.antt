@@ -180,21 +180,17 @@ module _ (w : World) (s : ProcessState) (Q : Option Page → List Frame → Type
       by_page (Err x) e = down (reply_to h (refusal (codes "join crashed")) ∷ []) (tt, tt) (inr (λ k m. refl))
       by_page (Ok o) e = joined h r o (join_renders w r h.join_reference h.topic (rest_of (suc s.generation) inbox) o e)
 
-  on_event : (p : Page) (inbox : List Waiting) (h : MessageHead) (name : List ℕ) (v : Value) (n : ℕ) → s.page ≡ Some p → Result (step_event w s p inbox h name v n)
-  on_event p inbox h name v n e = by_test (n == 0)
+  on_event : (p : Page) (inbox : List Waiting) (h : MessageHead) (name : List ℕ) (v : Value) (n : Option ℕ) → s.page ≡ Some p → Result (step_event w s p inbox h name v n)
+  on_event p inbox h name v None e =
+      let es = w.views.handle_event (of_view p.view) name v p.assigns in
+      turn p inbox (reply_diff h) (view_turn w p es (rest_of s.generation inbox)) e (replies h) (λ o k. view_rerenders w p es (rest_of s.generation inbox) o k)
+  on_event p inbox h name v (Some n) e = by_component (component_at n p.components) refl
     where
       by_component : (c : Option Component) → component_at n p.components ≡ c → Result (step_component w s p inbox h name v c)
       by_component None f = still (reply_to h empty ∷ []) (tt, tt)
       by_component (Some c) f =
           let es = w.views.handle_event (of_module c.module_name) name v c.assigns in
           turn p inbox (reply_diff h) (component_turn w p c es (rest_of s.generation inbox)) e (replies h) (λ o k. component_rerenders w p n c es (rest_of s.generation inbox) o f k)
-
-      by_test : (b : Bool)
-          → Result (if b then after_turn s p inbox (reply_diff h) (view_turn w p (w.views.handle_event (of_view p.view) name v p.assigns) (rest_of s.generation inbox)) else step_component w s p inbox h name v (component_at n p.components))
-      by_test true =
-          let es = w.views.handle_event (of_view p.view) name v p.assigns in
-          turn p inbox (reply_diff h) (view_turn w p es (rest_of s.generation inbox)) e (replies h) (λ o k. view_rerenders w p es (rest_of s.generation inbox) o k)
-      by_test false = by_component (component_at n p.components) refl
 
   on_patch : (p : Page) (inbox : List Waiting) (h : MessageHead) (o : Option Route) → s.page ≡ Some p → Result (step_patch w s p inbox h o)
   on_patch p inbox h None e = still (no_route h ∷ []) (refl, tt)

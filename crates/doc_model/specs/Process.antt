@@ -225,12 +225,11 @@ step_component w s p inbox h name v None = unchanged s inbox (reply_to h empty �
 step_component w s p inbox h name v (Some c) =
     after_turn s p inbox (reply_diff h) (component_turn w p c (w.views.handle_event (of_module c.module_name) name v c.assigns) (rest_of s.generation inbox))
 
--- an event, of the view or of a component
-abbrev pub step_event : World → ProcessState → Page → List Waiting → MessageHead → List ℕ → Value → ℕ → Stepped
-step_event w s p inbox h name v n =
-    if n == 0
-    then after_turn s p inbox (reply_diff h) (view_turn w p (w.views.handle_event (of_view p.view) name v p.assigns) (rest_of s.generation inbox))
-    else step_component w s p inbox h name v (component_at n p.components)
+-- an event, of the view or of a component; no component has the number 0
+abbrev pub step_event : World → ProcessState → Page → List Waiting → MessageHead → List ℕ → Value → Option ℕ → Stepped
+step_event w s p inbox h name v None =
+    after_turn s p inbox (reply_diff h) (view_turn w p (w.views.handle_event (of_view p.view) name v p.assigns) (rest_of s.generation inbox))
+step_event w s p inbox h name v (Some n) = step_component w s p inbox h name v (component_at n p.components)
 
 -- a patch to no route or to another view changes nothing
 abbrev pub step_patch : World → ProcessState → Page → List Waiting → MessageHead → Option Route → Stepped
