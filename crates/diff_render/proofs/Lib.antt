@@ -1,3 +1,3 @@
 pub mod Puts
-pub mod Met
+pub mod Items
 pub mod Loops

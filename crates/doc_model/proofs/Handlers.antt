@@ -11,7 +11,7 @@ use Rattle.doc_model.specs.Walk.{Owner}
 use Rattle.doc_model.specs.Table.{Honest}
 use Rattle.view_api.specs.Effect.{Effect, assign_to, stream_insert, stream_delete, stream_reset, subscribe, unsubscribe, publish, send_self, push_event}
 use Rattle.view_api.specs.Meaning.{ViewMeaning}
-use Rattle.doc_model.specs.Effects.{sent, Action, to_publish, Rest, Applied, storable, sendable, position_of, limit_of, batch_insert, batch_delete, batch_reset, with_batch, in_stream, acting, send_value, is_kept_name, assigned, insert_of, apply_effect, apply_effects, applied_or_raise, new_owner, updated_component, views_of}
+use Rattle.doc_model.specs.Effects.{sent, to_publish, Rest, Applied, storable, sendable, position_of, limit_of, batch_insert, batch_delete, batch_reset, with_batch, in_stream, acting, send_value, is_kept_name, assigned, insert_of, apply_effect, apply_effects, applied_or_raise, new_owner, updated_component, views_of}
 use Rattle.doc_model.proofs.Results.{On, on_made, on_bind, on_all, on_then, on_weaker}
 
 -- each stream shows what it showed

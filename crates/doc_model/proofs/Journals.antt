@@ -21,10 +21,9 @@ use Rattle.doc_model.specs.Table.{IsTable, SettledAs}
 use Rattle.doc_model.specs.Walk.{Walk, in_state, render_state}
 use Rattle.doc_model.specs.Run.{Turn, settled_stream, settled_components}
 use Rattle.doc_model.specs.Effects.{Rest, views_of}
-use Rattle.wire_v2.specs.Message.{MessageHead}
-use Rattle.doc_model.specs.Process.{World, Route, Page, Turning, Outcome, scope_of_view, levels, page_text, rendered_page, no_difference, reply_to}
-use Rattle.doc_model.specs.Journal.{Entry, Standing, begin_standing, process_step, after_step, replay_from, frames_from, since_join, frames_since_join, ShowsPage, ClientShows, PageShown}
-use Rattle.doc_model.specs.Headline.{IsLinked, JournalShows}
+use Rattle.doc_model.specs.Process.{World, Page, Turning, Outcome, scope_of_view, levels, rendered_page, no_difference, reply_to}
+use Rattle.doc_model.specs.Journal.{Entry, Standing, begin_standing, process_step, after_step, replay_from, frames_from, since_join, frames_since_join, ClientShows, PageShown}
+use Rattle.doc_model.specs.Headline.{IsLinked, ClientFollows, AllFramesShow, JournalShows}
 use Rattle.doc_model.proofs.Results.{On}
 use Rattle.doc_model.proofs.Sames.{both_true}
 use Rattle.doc_model.proofs.Depths.{trace_depth}

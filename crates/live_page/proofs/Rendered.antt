@@ -8,7 +8,7 @@ use Rattle.slot_compile.specs.declared.template.Node.{Node}
 use Rattle.slot_compile.specs.Template.{syntax_of, places_of, put_assign}
 use Rattle.slot_compile.proofs.Syntax.{places_are_puts}
 use Rattle.diff_render.specs.Met.{item_of, items_of}
-use Rattle.diff_render.proofs.Met.{one_place}
+use Rattle.diff_render.proofs.Items.{one_place}
 use Rattle.doc_model.specs.Environment.{Env, Stream}
 use Rattle.doc_model.specs.Evaluation.{Res, then_do, on_res, both}
 use Rattle.doc_model.specs.Scopes.{Site}
