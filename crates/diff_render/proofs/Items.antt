@@ -1,16 +1,15 @@
 -- What places meet, one after the other.
-use Rattle.std.proofs.Common.{◌≡◌, ℕ, suc, List, [], ◌∷◌, ◌++◌, map, Option, Some, None, Ok, Err, Bool, false, refl, sym, ap, ◌∙◌, subst}
+use Rattle.std.proofs.Common.{◌≡◌, ℕ, List, [], ◌∷◌, ◌++◌, map, Option, None, Ok, Err, false, refl, sym, ap, ◌∙◌}
 use Rattle.value_core.specs.Value.{Value, Assigns, no_assigns}
 use Rattle.value_core.specs.declared.raise.Raise.{Raise}
-use Rattle.ast_core.specs.Syntax.{Nodes, no_nodes, any}
-use Rattle.ast_core.specs.Places.{places_in}
+use Rattle.ast_core.specs.Syntax.{no_nodes, any}
 use Rattle.slot_compile.specs.declared.template.Node.{Node}
-use Rattle.slot_compile.specs.Template.{syntax_of, places_of, put_assign}
+use Rattle.slot_compile.specs.Template.{places_of, put_assign}
 use Rattle.slot_compile.proofs.Syntax.{places_are_puts}
 use Rattle.doc_model.specs.Environment.{Env, lookup}
 use Rattle.doc_model.specs.Evaluation.{Res, both}
-use Rattle.doc_model.specs.Scopes.{Site, Deeper, SlotBody}
-use Rattle.doc_model.specs.Trace.{Items, item, no_items, Item}
+use Rattle.doc_model.specs.Scopes.{Site, Deeper}
+use Rattle.doc_model.specs.Trace.{Items, item, Item}
 use Rattle.doc_model.specs.Tracing.{trace, trace_place, trace_places}
 use Rattle.diff_render.specs.Met.{Meets, item_of, items_of}
 
@@ -29,10 +28,10 @@ pub meets_items : (ns : List Node) (as' : Assigns) → Meets ns as' (items_of as
 meets_items ns as' site k env is = ap (trace_places site (trace site k) env) (places_are_puts ns) ∙ all_places site (trace site k) env (places_of ns) ∙ ap (λ bs. items_of bs (places_of ns)) is
 
 -- somewhere to stand
-plain_site : Site
+abbrev plain_site : Site
 plain_site = record { template = λ n. no_nodes; has_body = λ n. false; body = λ n. record { pattern = any; nodes = no_nodes }; root = λ m. no_nodes; mark = λ n t. t }
 
-plain_env : Assigns → Env
+abbrev plain_env : Assigns → Env
 plain_env as' = record { assigns = as'; variables = no_assigns; streams = None; components = [] }
 
 -- and what nodes meet is what their places meet

@@ -1,5 +1,5 @@
 -- What the loops over places keep.
-use Rattle.std.specs.Prelude.{◌≡◌, ℕ, List, length, Result, Ok, Err}
+use Rattle.std.specs.Prelude.{◌≡◌, ℕ, List, Result, Ok, Err}
 use Rattle.serde_json.specs.Data.{Members}
 use Rattle.text_core.specs.declared.by_key.KeyValue.{KeyValue}
 use Rattle.value_core.specs.Value.{Assigns}

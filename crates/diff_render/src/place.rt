@@ -26,11 +26,7 @@ fn value_text(alloc: Global, value: &Value) -> Result<Text, RenderFault>
 
 /// What the place of an assign shows: the assign's text, escaped; an absent assign raises, and so does a value without
 /// a text.
-pub(crate) fn place_text(
-    alloc: Global,
-    assigns: &Assigns,
-    name: &str,
-) -> Result<Text, RenderFault>
+pub(crate) fn place_text(alloc: Global, assigns: &Assigns, name: &str) -> Result<Text, RenderFault>
     ensures { ShowsPlace result (shown_of (lookup name.now (assigns_view assigns.now))) }
 {
     match assigns.get(name) {

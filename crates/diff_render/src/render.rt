@@ -15,11 +15,7 @@ use value_core::Assigns;
 
 /// The whole tree of a template under some assigns: its statics, and the text of each place. It raises exactly where
 /// the rendering does.
-pub fn first(
-    alloc: Global,
-    compiled: &Compiled,
-    assigns: &Assigns,
-) -> Result<Part, RenderFault>
+pub fn first(alloc: Global, compiled: &Compiled, assigns: &Assigns) -> Result<Part, RenderFault>
     ensures { FirstIsWhole compiled.now (assigns_view assigns.now) result }
 {
     let places = whole_places(alloc, compiled.places(), assigns)?;
