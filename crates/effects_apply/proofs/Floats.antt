@@ -6,7 +6,8 @@ use Rattle.serde_json.specs.Written.{has_float, items_have_float, members_have_f
 use Rattle.value_core.specs.Value.{Value, nil, boolean, whole_number, text, atom, list, tuple, map_of, slot, Values, no_values, value, Assigns, no_assigns, assign}
 use Rattle.value_core.specs.declared.raise.Raise.TheVariants.{BadArgument, Deep}
 use Rattle.value_core.specs.Json.{json_of_value, json_of_values, json_of_assigns}
-use Rattle.doc_model.specs.Evaluation.{then_do, or_raise, value_depth}
+use Rattle.doc_model.specs.Evaluation.{then_do, or_raise}
+use Rattle.value_core.specs.Nesting.{depth_of}
 use Rattle.doc_model.specs.Effects.{sendable}
 
 -- whether a float is written, where anything is
@@ -75,4 +76,4 @@ of_sendable (Some c) false d h e = cc
 
 -- what may be sent has none
 pub sendable_no_float : (v : Value) (d : Data) → sendable v ≡ Ok d → has_float d ≡ false
-sendable_no_float v d e = of_sendable (json_of_value v) (nat_lt 100 (value_depth v)) d (value_none v) e
+sendable_no_float v d e = of_sendable (json_of_value v) (nat_lt 100 (depth_of v)) d (value_none v) e

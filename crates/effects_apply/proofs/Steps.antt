@@ -19,7 +19,8 @@ use Rattle.diff_tree.specs.Container.{Position, Limit}
 use Rattle.view_api.specs.Effect.{assign_to, stream_insert, send_self, push_event}
 use Rattle.doc_model.specs.Environment as scope
 use Rattle.doc_model.specs.Environment.{Stream}
-use Rattle.doc_model.specs.Evaluation.{Res, value_depth}
+use Rattle.doc_model.specs.Evaluation.{Res}
+use Rattle.value_core.specs.Nesting.{depth_of}
 use Rattle.doc_model.specs.Calls.{has_slot}
 use Rattle.doc_model.specs.Effects.{Waiting, sent, inbox_limit, storable, sendable, position_of, limit_of, acting, is_kept_name, in_stream, batch_insert, insert_of, Applied, apply_effect}
 use Rattle.effects_apply.specs.declared.rest.Push.{Push}
@@ -42,7 +43,7 @@ stored_by v false false r e h = e
 
 -- what may be stored is itself
 pub stored : (v : model.Value) → is_ok (storable v) ≡ true → storable v ≡ Ok v
-stored v h = stored_by v (has_slot v) (nat_lt 100 (value_depth v)) (storable v) refl h
+stored v h = stored_by v (has_slot v) (nat_lt 100 (depth_of v)) (storable v) refl h
 
 -- assigns with a value at a name
 pub seen_with : (k : List ℕ) (v : Value) (es : List (KeyValue Value)) → assigns_view (with_key k v es) ≡ scope.with_key k (view v) (assigns_view es)

@@ -4,7 +4,7 @@ ghost use Rattle.serde_json.specs.Written.{compact_text, has_float};
 ghost use Rattle.serde_json.specs.View.{view as json_view};
 ghost use Rattle.value_core.specs.View.{view, values_view, assigns_view};
 ghost use Rattle.doc_model.specs.Calls.{has_slot, have_slot, hold_slot};
-ghost use Rattle.doc_model.specs.Evaluation.{value_depth};
+ghost use Rattle.value_core.specs.Nesting.{depth_of};
 ghost use Rattle.doc_model.specs.Effects.{storable, sendable, position_of, limit_of, is_kept_name};
 ghost use Rattle.effects_apply.specs.Applied.{GivesJson};
 
@@ -56,7 +56,7 @@ fn entries_hold_slot(entries: &Assigns) -> bool
 
 // Whether a value nests deeper than one may that is stored or sent.
 fn is_deep(value: &Value) -> bool
-    ensures { result ≡ nat_lt 100 (value_depth (view value.now)) }
+    ensures { result ≡ nat_lt 100 (depth_of (view value.now)) }
 {
     depth(value) > MOST_LEVELS
 }
