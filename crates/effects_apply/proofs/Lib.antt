@@ -1,3 +1,3 @@
 mod Floats
-mod Steps
+pub mod Steps
 mod Orders

@@ -1,1 +1,3 @@
 pub mod Rendered
+pub mod Turned
+pub mod Joined

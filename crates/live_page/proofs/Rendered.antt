@@ -17,37 +17,36 @@ use Rattle.doc_model.specs.Tracing.{trace}
 use Rattle.doc_model.specs.Effects.{Rest, Applied, apply_effects, views_of}
 use Rattle.doc_model.specs.Once.{left, left_to}
 use Rattle.doc_model.specs.Run.{settled_stream, settled_components}
-use Rattle.doc_model.specs.Walk.{Views, Walk, Onward, Step, pass, pass_places, render_state, at_end_of_walk}
+use Rattle.doc_model.specs.Walk.{Views, Walk, Onward, Step, pass, pass_places, render_state, at_end_of_walk, plainly, in_turn}
 use Rattle.doc_model.specs.Process.{World, Page, Outcome, Turning, levels, scope_of_view, rendered_page, turning_view, view_turn}
 use Rattle.live_page.specs.declared.app.App.{App}
 use Rattle.live_page.specs.World.{world_of, site}
 use Rattle.live_page.specs.Page.{page_of}
 
-then_rest : (s : Walk Rest) (r : Res Item) (rest : Step Rest Items) (q : Res Items) → rest s ≡ on_res (λ is. (is, s)) q
-    → then_do (on_res (λ a. (a, s)) r) (λ p. on_res (λ z. (item p.0 z.0, z.1)) (rest p.1)) ≡ on_res (λ is. (is, s)) (both item r q)
+then_rest : (s : Walk Rest) (r : Res Item) (rest : Step Rest Items) (q : Res Items) → rest s ≡ plainly q s → in_turn item (plainly r) rest s ≡ plainly (both item r q) s
 then_rest s (Ok i) rest (Ok is) h = ap (on_res (λ z. (item i z.0, z.1))) h
 then_rest s (Ok i) rest (Err e) h = ap (on_res (λ z. (item i z.0, z.1))) h
 then_rest s (Err e) rest q h = refl
 
 -- a pass over places that are texts of assigns meets what they meet, and leaves the process as it is
 pub pass_all : (views : Views Rest) (at : Site) (k : ℕ) (go : Onward views) (env : Env) (ns : List (List ℕ)) (s : Walk Rest)
-    → pass_places views at k go env (map put_assign ns) s ≡ on_res (λ is. (is, s)) (items_of env.assigns ns)
+    → pass_places views at k go env (map put_assign ns) s ≡ plainly (items_of env.assigns ns) s
 pass_all views at k go env [] s = refl
 pass_all views at k go env (n ∷ ns) s =
-    ap (λ r. then_do (on_res (λ a. (a, s)) r) (λ p. on_res (λ z. (item p.0 z.0, z.1)) (pass_places views at k go env (map put_assign ns) p.1))) (one_place at (trace at k) env n)
+    ap (λ r. in_turn item (plainly r) (pass_places views at k go env (map put_assign ns)) s) (one_place at (trace at k) env n)
     ∙ then_rest s (item_of env.assigns n) (pass_places views at k go env (map put_assign ns)) (items_of env.assigns ns) (pass_all views at k go env ns s)
 
 module _ {V : Type 0} (meaning : V → HandlerMeaning) (app : App V) where
-  nodes : List Node
+  abbrev pub nodes : List Node
   nodes = app.compiled
 
-  walk_of : Rest → Walk Rest
+  abbrev pub walk_of : Rest → Walk Rest
   walk_of r = record { components = []; met = []; next = 1; rest = r }
 
-  outcome_of : ℕ → Option (List ℕ) → List ℕ → Assigns → Rest → Items → Outcome
+  abbrev pub outcome_of : ℕ → Option (List ℕ) → List ℕ → Assigns → Rest → Items → Outcome
   outcome_of v j t as' r is = record { page = page_of v as' j t is; rest = r }
 
-  passed : (env : Env) (r : Rest) → pass (views_of (world_of meaning app).views) site levels env (syntax_of nodes) (walk_of r) ≡ on_res (λ is. (is, walk_of r)) (items_of env.assigns (places_of nodes))
+  passed : (env : Env) (r : Rest) → pass (views_of (world_of meaning app).views) site levels env (syntax_of nodes) (walk_of r) ≡ plainly (items_of env.assigns (places_of nodes)) (walk_of r)
   passed env r =
       ap (λ ps. pass_places (views_of (world_of meaning app).views) site 40 (pass (views_of (world_of meaning app).views) site 40) env ps (walk_of r)) (places_are_puts nodes)
       ∙ pass_all (views_of (world_of meaning app).views) site 40 (pass (views_of (world_of meaning app).views) site 40) env (places_of nodes) (walk_of r)
@@ -58,10 +57,16 @@ module _ {V : Type 0} (meaning : V → HandlerMeaning) (app : App V) where
       ≡ on_res (outcome_of v j t as' r) (items_of as' (places_of nodes))
   rendered_is v j t as' streams r = ap after (passed (scope_of_view as' streams []) r) ∙ by (items_of as' (places_of nodes))
     where
-      after : Res (Items × Walk Rest) → Res Outcome
-      after q = on_res (λ p. record { page = record { view = v; assigns = as'; streams = settled_stream (left site.mark p.0); components = settled_components (left_to site.mark p.0) p.1.components; next = p.1.next; met = p.0; join_reference = j; topic = t }; rest = p.1.rest }) (on_res (λ p. (p.0, at_end_of_walk p.1)) q)
+      rendered : Items × Walk Rest → Items × Walk Rest
+      rendered p = (p.0, at_end_of_walk p.1)
 
-      by : (q : Res Items) → after (on_res (λ is. (is, walk_of r)) q) ≡ on_res (outcome_of v j t as' r) q
+      left_page : Items × Walk Rest → Outcome
+      left_page p = record { page = record { view = v; assigns = as'; streams = settled_stream (left site.mark p.0); components = settled_components (left_to site.mark p.0) p.1.components; next = p.1.next; met = p.0; join_reference = j; topic = t }; rest = p.1.rest }
+
+      after : Res (Items × Walk Rest) → Res Outcome
+      after q = on_res left_page (on_res rendered q)
+
+      by : (q : Res Items) → after (plainly q (walk_of r)) ≡ on_res (outcome_of v j t as' r) q
       by (Ok is) = refl
       by (Err e) = refl
 

@@ -1,5 +1,5 @@
 -- A page that is up, as it is kept, and as the definitions see it.
-use Rattle.std.specs.Prelude.{◌≡◌, ℕ, List, [], Option, Result, Ok, Err, IsErr, ◌×◌}
+use Rattle.std.specs.Prelude.{◌≡◌, ℕ, List, [], Option, Result, Ok, Err, IsErr}
 use Rattle.serde_json.specs.Data.{Data}
 use Rattle.value_core.specs.Value.{Assigns}
 use Rattle.slot_compile.specs.declared.template.Node.{Node}

@@ -47,13 +47,13 @@ impl<V: Views> App<V> {
         ensures { IfOk result (λ to. option_map destination_view to ≡ route_in self.now.routes url.now) }
     {
         match self.routes.find(alloc, url)? {
-            Some(found) => Ok(Some(destination(alloc, found)?)),
+            Some(found) => Ok(Some(leads_to(alloc, found)?)),
             None => Ok(None),
         }
     }
 }
 
-fn destination(alloc: Global, found: Found) -> Result<Destination, OutOfMemory>
+fn leads_to(alloc: Global, found: Found) -> Result<Destination, OutOfMemory>
     ensures { IfOk result (λ to. destination_view to ≡ route_of (seen found)) }
 {
     let Found {

@@ -1,5 +1,5 @@
 //! A page that is up.
-ghost use Rattle.std.specs.Prelude.{◌≡◌, Some};
+ghost use Rattle.std.specs.Prelude.{◌≡◌, List, Some};
 ghost use Rattle.value_core.specs.View.{view};
 ghost use Rattle.view_api.specs.Meaning.{of_view};
 ghost use Rattle.view_api.specs.View.{effects_view};
@@ -73,9 +73,9 @@ impl LivePage {
             → Turns app.now.compiled w p (view_turn (world_of V.meaning app.now) p ((world_of V.meaning app.now).views.handle_event (of_view p.view) event.now (view value.now) p.assigns) (rest_view w rest.old)) self.new result rest.new }
     {
         let owner = Owner::View(self.view);
-        let effects =
-            app.views
-                .handle_event(alloc, owner, event, value, self.assigns.assigns())?;
+        let effects = app
+            .views
+            .handle_event(alloc, owner, event, value, self.assigns.assigns())?;
         self.turn(alloc, app, effects, rest)
     }
 
@@ -91,9 +91,9 @@ impl LivePage {
         ensures { (w : List Waiting) (p : Page) → StandsFor app.now.compiled self.old p → CountsFree w rest.old
             → Turns app.now.compiled w p (view_turn (world_of V.meaning app.now) p ((world_of V.meaning app.now).views.handle_params p.view (view params.now) p.assigns) (rest_view w rest.old)) self.new result rest.new }
     {
-        let effects =
-            app.views
-                .handle_params(alloc, self.view, params, self.assigns.assigns())?;
+        let effects = app
+            .views
+            .handle_params(alloc, self.view, params, self.assigns.assigns())?;
         self.turn(alloc, app, effects, rest)
     }
 
