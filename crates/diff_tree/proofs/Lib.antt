@@ -3,5 +3,5 @@ mod Statics
 pub mod Stored
 pub mod ReadsBack
 mod Written
-mod Taken
+pub mod Taken
 mod Spelled

@@ -2,7 +2,7 @@ use Rattle.std.proofs.Common.{◌≡◌, ◌∙◌, ap, rules, string_bytes}
 use Rattle.serde_json.specs.View.{view}
 use Rattle.serde_json.specs.Written.{compact_text, has_float}
 use Rattle.wire_v2.specs.FrameData.{frame_data}
-use Rattle.wire_v2.proofs.Wholes.{frame_whole}
+use Rattle.wire_v2.proofs.NoFloat.{frame_whole}
 use Rattle.wire_v2.proofs.frame_writing.write_frame.Goals as goal
 
 pub returns : goal.returns
