@@ -1,5 +1,5 @@
 -- The messages of a browser, and the bytes that spell them.
-use Rattle.std.specs.Prelude.{◌≡◌, ℕ, ◌^◌, List, [], ◌∷◌, take, length, Option, Some, None, option_map, option_and_then, Bool, true, false, ◌&&◌, nat_lt, if◌then◌else◌, codes}
+use Rattle.std.specs.Prelude.{◌≡◌, ℕ, ◌^◌, List, take, length, Option, Some, None, option_map, option_and_then, Bool, true, false, ◌&&◌, nat_lt, if◌then◌else◌, codes}
 use Rattle.std.specs.Str.{bytes_eq, is_utf8}
 use Rattle.serde_json.specs.Data.{Data, null, number, string, array, object, unsigned, negative, Items, no_items, item}
 use Rattle.serde_json.specs.Find.{get, as_str}

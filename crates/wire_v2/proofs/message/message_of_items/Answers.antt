@@ -1,4 +1,4 @@
-use Rattle.std.proofs.Common.{rules, sym, ◌≢◌, length, arith}
+use Rattle.std.proofs.Common.{rules, sym, ◌≢◌, length}
 use Rattle.wire_v2.proofs.Items.{not_five}
 use Rattle.wire_v2.proofs.message.message_of_items.Goals as goal
 use Rattle.wire_v2.proofs.message.message_of_items.Goals.{in_default-via-then-items-lt5, in_default-via-else-items-lt5+else-items-lt6}
