@@ -5,6 +5,8 @@ mod event;
 mod frame;
 mod frame_laws;
 mod frame_reading;
+#[cfg(test)]
+mod frame_tests;
 mod frame_writing;
 mod head;
 mod message;
