@@ -1,5 +1,5 @@
 -- The member `e` among the others.
-use Rattle.std.proofs.Common.{◌≡◌, ℕ, List, [], ◌∷◌, ◌++◌, String, string_bytes, Global, Bool, true, false, if◌then◌else◌, refl, sym, ap, ◌∙◌, subst, Ordering, Less, Equal, Greater, Option, Some, None, codes}
+use Rattle.std.proofs.Common.{◌≡◌, ℕ, List, ◌∷◌, ◌++◌, String, string_bytes, Global, Bool, true, false, if◌then◌else◌, refl, sym, ap, ◌∙◌, subst, Ordering, Less, Equal, Greater, Some, None, codes}
 use Rattle.std.specs.Ordering.{is_lt, is_eq, ordering_reverse, match_ordering}
 use Rattle.std.specs.Str.{bytes_eq}
 use Rattle.std.specs.Cmp.Lexicographic.{nat_list_cmp_total}
@@ -11,20 +11,20 @@ use Rattle.serde_json.specs.View.{view, members_view}
 use Rattle.serde_json.specs.declared.value.Value.{Value}
 use Rattle.text_core.specs.Keyed.{is_before, ascend}
 use Rattle.text_core.proofs.Keyed.{order, both_of}
-use Rattle.diff_tree.proofs.Order.{names, join, join-none, join-join, names_last, put_last, before_rest, put_first, absent, apart_back}
+use Rattle.diff_tree.proofs.Order.{names, join, join-join, names_last, put_last, before_rest, put_first, absent, apart_back}
 use Rattle.diff_tree.proofs.Taken.{member_keys}
 use Rattle.wire_v2.specs.FrameGrammar.{plain_members}
 
 abbrev e_key : List ℕ
 e_key = codes "e"
 
-keeps_if : (b : Bool) (k : List ℕ) (d : Data) (ms ns : Members) → b ≡ false → plain_members ms ≡ ns → (if b then plain_members ms else member k d (plain_members ms)) ≡ member k d ns
+pub keeps_if : (b : Bool) (k : List ℕ) (d : Data) (ms ns : Members) → b ≡ false → plain_members ms ≡ ns → (if b then plain_members ms else member k d (plain_members ms)) ≡ member k d ns
 keeps_if b k d ms ns h g = rw h (ap (member k d) g)
 
 passes_if : (b : Bool) (k : List ℕ) (d : Data) (ms : Members) → b ≡ true → (if b then plain_members ms else member k d (plain_members ms)) ≡ plain_members ms
 passes_if b k d ms h = rw h refl
 
-apart_greater : (l : List ℕ) → order e_key l ≡ Greater → bytes_eq l e_key ≡ false
+pub apart_greater : (l : List ℕ) → order e_key l ≡ Greater → bytes_eq l e_key ≡ false
 apart_greater l is = sym (is_eq-slice_cmp l e_key) ∙ ap is_eq (nat_list_cmp_total.antisymm l e_key ∙ ap ordering_reverse is)
 
 -- where `e` is not found there is none

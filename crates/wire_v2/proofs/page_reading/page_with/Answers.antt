@@ -1,7 +1,7 @@
 use Rattle.std.proofs.Common.{◌≡◌, rules, false, Some, sym, ap, ◌∙◌}
 use Rattle.serde_json.specs.View.{view}
 use Rattle.diff_tree.specs.Grammar.{is_diff}
-use Rattle.wire_v2.specs.FrameGrammar.{events_fit, without_events}
+use Rattle.wire_v2.specs.FrameGrammar.{events_fit}
 use Rattle.wire_v2.proofs.Shapes.{page_both, page_no_events, page_no_diff, page_again}
 use Rattle.wire_v2.proofs.page_reading.page_with.Goals as goal
 
