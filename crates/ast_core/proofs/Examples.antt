@@ -4,7 +4,7 @@ use Rattle.std.specs.Prelude.{codes}
 use Rattle.ast_core.specs.declared.operators.BinaryOp.TheVariants as op
 use Rattle.ast_core.specs.declared.operators.Function.TheVariants as call
 use Rattle.ast_core.specs.Syntax.{Expr, number, name, at, var, field, index, binary, call_of, no_exprs, expr}
-use Rattle.ast_core.specs.ExprView.{Step, field_step, index_step, path_of, left_chain, right_chain, pipes_of}
+use Rattle.ast_core.specs.ExprView.{field_step, index_step, path_of, left_chain, right_chain, pipes_of}
 
 abbrev a : Expr
 a = name (var (codes "a"))

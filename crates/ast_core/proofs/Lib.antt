@@ -1,1 +1,7 @@
 pub mod Examples
+pub mod ExprReads
+pub mod Members
+pub mod NodeReads
+pub mod Ordered
+pub mod PatternReads
+pub mod Walks

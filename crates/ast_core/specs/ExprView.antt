@@ -6,11 +6,6 @@ use Rattle.ast_core.specs.Syntax.{Exprs, no_exprs, expr, Pairs, no_pairs, pair, 
 use Rattle.ast_core.specs.declared.operators.BinaryOp.{BinaryOp}
 use Rattle.ast_core.specs.declared.operators.Function.{Function}
 use Rattle.ast_core.specs.declared.expr.Expr.{Expr}
-use Rattle.ast_core.specs.declared.expr.TextPart.{TextPart}
-use Rattle.ast_core.specs.declared.expr.Pair.{Pair}
-use Rattle.ast_core.specs.declared.expr.PathStep.{PathStep}
-use Rattle.ast_core.specs.declared.expr.Operand.{Operand}
-use Rattle.ast_core.specs.declared.expr.PipeCall.{PipeCall}
 use Rattle.ast_core.specs.declared.expr.Expr.TheOpen.{Expr-F, TextPart-F, Pair-F, PathStep-F, Operand-F, PipeCall-F}
 use Rattle.ast_core.specs.declared.expr.Expr.TheFolds.{fold-Expr}
 

@@ -4,3 +4,6 @@ pub mod Places
 pub mod PatternView
 pub mod ExprView
 pub mod NodeView
+pub mod Reads
+pub mod Walk
+pub mod NamesIn

@@ -2,7 +2,6 @@
 use Rattle.std.specs.Prelude.{ℕ, List, [], ◌∷◌, map, Option, Some, None, option_map}
 use Rattle.ast_core.specs.Syntax as model
 use Rattle.ast_core.specs.Syntax.{no_attributes, written, valued, spread_of, module_of, double_quoted, single_quoted, bare, Nodes, no_nodes, node, Clauses, no_clauses, clause, Entries, no_entries, entry, slot_body}
-use Rattle.ast_core.specs.declared.expr.Expr.{Expr}
 use Rattle.ast_core.specs.declared.pattern.Pattern.{Pattern}
 use Rattle.ast_core.specs.declared.node.Location.{Location}
 use Rattle.ast_core.specs.declared.node.Generator.{Generator}

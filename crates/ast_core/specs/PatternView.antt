@@ -1,5 +1,5 @@
 -- What the program's patterns stand for.
-use Rattle.std.specs.Prelude.{ℕ, List, [], ◌∷◌, map}
+use Rattle.std.specs.Prelude.{ℕ, List, [], ◌∷◌}
 use Rattle.value_core.specs.Value as value
 use Rattle.ast_core.specs.Syntax as model
 use Rattle.ast_core.specs.Syntax.{Patterns, no_patterns, pattern, PatternPairs, no_keys, key}

@@ -1,4 +1,9 @@
-pub mod Order
+pub mod Among
+pub mod Closed
+pub mod Levels
+pub mod Batches
+pub mod Looks
+mod Order
 mod Statics
 pub mod Stored
 pub mod ReadsBack

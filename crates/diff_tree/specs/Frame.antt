@@ -1,5 +1,5 @@
 -- The frames that a process sends, as JSON values, and what a client makes of them.
-use Rattle.std.specs.Prelude.{ℕ, List, [], ◌∷◌, Option, Some, None, Bool, true, false, codes}
+use Rattle.std.specs.Prelude.{ℕ, List, [], ◌∷◌, Option, Some, None, if◌then◌else◌, codes}
 use Rattle.std.specs.Str.{bytes_eq}
 use Rattle.serde_json.specs.Data.{Data, null, string, array, object, no_items, item, no_members, put}
 use Rattle.diff_tree.specs.Client.{PageTree, PageDiff, opened_tree, judged, merge_diff}
@@ -81,11 +81,7 @@ client_takes k held (changed d es) = held_diff k held d
 client_takes k held (push d es) = held_diff k held d
 client_takes k held closed = Some None
 client_takes k held (faulted reason) = Some None
-client_takes k held (refusal reason) = by_reason (bytes_eq reason (codes "join crashed"))
-  where
-    by_reason : Bool → Option (Option PageTree)
-    by_reason true = Some None
-    by_reason false = Some held
+client_takes k held (refusal reason) = if bytes_eq reason (codes "join crashed") then Some None else Some held
 client_takes k held _ = Some held
 
 -- what a client holds after frames, in order

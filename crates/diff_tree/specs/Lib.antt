@@ -5,4 +5,5 @@ pub mod Mark
 pub mod Spelling
 pub mod Frame
 pub mod Parts
+pub mod Laws
 pub mod Grammar

@@ -2,7 +2,7 @@
 #![tactic(auto)]
 
 mod fault;
-mod laws;
+pub mod laws;
 mod part;
 mod reading;
 #[cfg(test)]
@@ -10,7 +10,6 @@ mod tests;
 mod writing;
 
 pub use fault::DiffFault;
-pub use laws::text_spells_one_diff;
 pub use part::{Diff, Part, PlaceValue};
 pub use reading::{read_diff, read_diff_value};
 pub use writing::{diff_value, write_diff};

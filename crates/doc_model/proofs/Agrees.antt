@@ -1,9 +1,9 @@
 -- Two environments that agree on the names of an expression or of nodes give the same value and the same whole tree.
-use Rattle.std.proofs.Common.{◌≡◌, ℕ, zero, suc, List, [], ◌∷◌, ◌++◌, map, Ok, Err, Option, Some, None, Bool, true, false, ◌&&◌, if◌then◌else◌, refl, ap, ◌∙◌, subst}
+use Rattle.std.proofs.Common.{◌≡◌, ℕ, zero, suc, List, [], ◌∷◌, ◌++◌, map, Ok, Err, Option, Some, None, Bool, true, false, if◌then◌else◌, refl, ap, ◌∙◌, subst}
 use Rattle.diff_tree.specs.Tree as tr
-use Rattle.value_core.specs.Value.{Value, Values, no_values, value, Assigns, same}
-use Rattle.ast_core.specs.Syntax.{at, Expr, number, index, Pattern, any, pattern, Place, put, attribute, spread, if_place, case_place, for_place, call, render_slot, live_call, stream_place, Node, text_node, element, at_place, Nodes, no_nodes, node, Clauses, no_clauses, clause, Attributes, no_attributes, written, valued, spread_of, module_of}
-use Rattle.ast_core.specs.Free.{without, bound, free_names, free_pairs, free_nodes, free_node, free_place, free_clauses, free_entries, free_attributes}
+use Rattle.value_core.specs.Value.{Value, Values, no_values, value, Assigns}
+use Rattle.ast_core.specs.Syntax.{Expr, Pattern, Place, put, attribute, spread, if_place, case_place, for_place, call, render_slot, live_call, stream_place, Node, text_node, element, at_place, Nodes, no_nodes, node, Clauses, no_clauses, clause, Attributes, no_attributes, written, valued, spread_of, module_of}
+use Rattle.ast_core.specs.Free.{without, bound, free_names, free_nodes, free_node, free_place, free_clauses, free_attributes}
 use Rattle.doc_model.specs.Environment.{Env, Component, Stream, bind, inside, binding, bindings, reading, find}
 use Rattle.doc_model.specs.Evaluation.{Res, then_do, on_res, eval_expr, printed, is_true}
 use Rattle.text_core.specs.Escape.{escape_text}
@@ -18,7 +18,7 @@ use Rattle.ast_core.specs.Places.{cut, places_in, places_of, places_of_attribute
 use Rattle.doc_model.specs.Tracing.{trace, trace_places, trace_place, trace_rows, trace_slot, trace_slots, trace_else}
 use Rattle.doc_model.proofs.Results.{On, on_made, Pair, pair_err, pair_same, pair_both}
 use Rattle.doc_model.specs.Calls.{items_of, call_assigns, live_assigns, module_in}
-use Rattle.doc_model.proofs.Names.{Agree, agree_left, agree_right, agree_cast, agree_same, Binds, binds, agree_bound, eval_agrees, pairs_agree}
+use Rattle.doc_model.proofs.Names.{Agree, agree_left, agree_right, agree_cast, agree_same, Binds, binds, agree_bound, eval_agrees}
 use Rattle.doc_model.proofs.Calling.{call_agrees_on, live_agrees_on}
 
 -- the chosen clause's names agree

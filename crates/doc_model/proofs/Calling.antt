@@ -1,12 +1,12 @@
 -- Environments that agree on the names of a call pass the same.
-use Rattle.std.proofs.Common.{◌≡◌, ℕ, List, [], ◌∷◌, ◌++◌, Result, Ok, Err, Option, Some, None, Bool, true, false, if◌then◌else◌, refl, ap, ◌∙◌, codes}
-use Rattle.value_core.specs.Value.{Value, list, map_of, nil, slot, Values, no_values, value, Assigns, no_assigns, assign}
-use Rattle.ast_core.specs.Syntax.{Name, Expr, Pattern, Generator, Written, Attributes, no_attributes, written, valued, spread_of, module_of, Nodes, Body, slot_body, Entries, no_entries, entry}
+use Rattle.std.proofs.Common.{◌≡◌, ◌∷◌, ◌++◌, Ok, Err, Option, Some, None, if◌then◌else◌, refl, ap, ◌∙◌, codes}
+use Rattle.value_core.specs.Value.{list, map_of, slot, Values, no_values, value, Assigns, no_assigns, assign}
+use Rattle.ast_core.specs.Syntax.{Expr, Pattern, Generator, Attributes, no_attributes, written, valued, spread_of, module_of, Body, slot_body, Entries, no_entries, entry}
 use Rattle.ast_core.specs.Free.{bound, without, free_names, free_nodes, free_body, free_test, free_inside, free_attributes, free_entries}
 use Rattle.doc_model.specs.Environment.{Env, bind, binding, bindings, captured_assigns, captured_variables, with_key}
 use Rattle.doc_model.specs.Evaluation.{Res, then_do, both, on_res, eval_expr, is_true, append_values}
-use Rattle.doc_model.specs.Calls.{Passed, written_value, spread_entries, add_named, add_spread, eval_attributes, all_passed, slot_value, entry_value, one_entry, tested_entry, items_of, entry_rows, entry_values, add_entries, eval_entries, is_blank, content_entries, callee_assigns, call_assigns, live_passed, live_assigns, without_key}
-use Rattle.doc_model.proofs.Names.{Agree, agree_left, agree_right, agree_bound, agree_same, Binds, keys, binds, eval_agrees, captured_assigns_agree, captured_variables_agree}
+use Rattle.doc_model.specs.Calls.{written_value, spread_entries, add_named, add_spread, eval_attributes, all_passed, slot_value, entry_value, one_entry, tested_entry, items_of, entry_rows, entry_values, add_entries, eval_entries, is_blank, content_entries, callee_assigns, call_assigns, live_passed, live_assigns, without_key}
+use Rattle.doc_model.proofs.Names.{Agree, agree_left, agree_right, agree_bound, agree_same, Binds, binds, eval_agrees, captured_assigns_agree, captured_variables_agree}
 
 pub attributes_agree : (xs : Attributes) (a b : Env) → Agree a b (free_attributes xs) → eval_attributes a xs ≡ eval_attributes b xs
 attributes_agree no_attributes a b h = refl

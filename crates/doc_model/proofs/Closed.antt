@@ -1,14 +1,12 @@
 -- The numbers that stand in a held tree have components, level by level, and only components that were met are reached.
-use Rattle.std.proofs.Common.{◌≡◌, ℕ, zero, suc, ◌+◌, ◌≤◌, max, List, [], ◌∷◌, ◌++◌, map, Option, Some, None, Bool, true, false, ◌&&◌, ◌==◌, if◌then◌else◌, refl, sym, ap, ◌∙◌, subst, arith, true≢false, ◌⊎◌, inl, inr}
-use Rattle.std.proofs.lemmas.Bool.Decides.{Decides-eqb}
-use Rattle.diff_tree.specs.Container.{Row, Batch, after, is_none}
-use Rattle.diff_tree.specs.Tree.{Tree, text, number, node, list, held, Trees, no_trees, tree, Rows, no_rows, row, Held, row_list, opened, opened_all, opened_rows}
-use Rattle.diff_tree.specs.Client.{among, numbers_in, numbers_in_all, numbers_in_rows, numbers_in_held, all_found, closed, inside, reached}
+use Rattle.std.proofs.Common.{◌≡◌, ℕ, zero, suc, ◌+◌, ◌≤◌, List, [], ◌∷◌, ◌++◌, Option, Some, None, true, false, ◌&&◌, refl, ap, ◌∙◌, arith, ◌⊎◌, inl, inr}
+use Rattle.diff_tree.specs.Tree.{Tree, Trees, no_trees, tree, row_list, opened, opened_all, opened_rows}
+use Rattle.diff_tree.specs.Client.{numbers_in, numbers_in_all, numbers_in_rows, closed}
+use Rattle.diff_tree.proofs.Closed.{closed_append, closed_upto, none_closed}
 use Rattle.doc_model.specs.Trace.{Items, no_items, item, Item, met_text, met_nothing, met_branch, met_rows, met_call, met_slots, met_component, met_stream, ItemRows, no_item_rows, item_row, Slots, no_slots, slot_of}
-use Rattle.doc_model.specs.Whole.{whole_places, whole_place, whole_rows, whole_slots, rows_tree, slots_tree}
+use Rattle.doc_model.specs.Whole.{whole_places, whole_place, whole_rows, whole_slots, slots_tree}
 use Rattle.doc_model.specs.Holding.{Holds, HoldsItem, HoldsSlots}
-use Rattle.doc_model.specs.Components.{Part, parts, parts_of, parts_of_rows, parts_of_slots, part_numbers, AllOf, HoldsNode, HoldsOption, HoldsPart, depth, depth_of, depth_of_rows, depth_of_slots}
-use Rattle.doc_model.proofs.Sames.{both_true}
+use Rattle.doc_model.specs.Components.{Part, parts, parts_of, parts_of_rows, parts_of_slots, AllOf, HoldsNode, HoldsOption, HoldsPart, depth, depth_of, depth_of_rows, depth_of_slots}
 use Rattle.doc_model.proofs.Wholes.{Good, GoodItem, GoodRows, GoodSlots}
 use Rattle.doc_model.proofs.Numbers.{none_after, still_rows_none}
 use Rattle.doc_model.proofs.Origins.{all_left, all_right, all_weaker}
@@ -98,44 +96,8 @@ module _ (mark : ℕ → List ℕ → List ℕ) where
   pub node_numbers : (st : List (List ℕ)) (is : Items) (t : Tree) → HoldsNode mark st is t → Good is → numbers_in t ≡ met is
   node_numbers st is t h g = ap numbers_in h.1 ∙ held_numbers h.0 is h.2 g
 
--- closed lists of numbers
-and_true : (a b : Bool) → a ≡ true → b ≡ true → (a && b) ≡ true
-and_true a b h k = ap (λ c. c && b) h ∙ k
-
-found_append : (p : Tree → Bool) (f : ℕ → Option Tree) (a b : List ℕ) → all_found p f a ≡ true → all_found p f b ≡ true → all_found p f (a ++ b) ≡ true
-found_append p f [] b h k = k
-found_append p f (n ∷ a) b h k =
-    let q = both_true (elim (f n) [ None ↦ false | Some t ↦ p t ]) (all_found p f a) h in
-    and_true (elim (f n) [ None ↦ false | Some t ↦ p t ]) (all_found p f (a ++ b)) q.0 (found_append p f a b q.1 k)
-
-pub closed_append : (k : ℕ) (f : ℕ → Option Tree) (a b : List ℕ) → closed k f a ≡ true → closed k f b ≡ true → closed k f (a ++ b) ≡ true
-closed_append zero f [] b h k = k
-closed_append zero f (n ∷ a) b h k = absurd (true≢false (sym h))
-closed_append (suc j) f a b h k = found_append (λ t. closed j f (numbers_in t)) f a b h k
-
-found_weaker : (p q : Tree → Bool) (f : ℕ → Option Tree) (ns : List ℕ) → ((t : Tree) → p t ≡ true → q t ≡ true) → all_found p f ns ≡ true → all_found q f ns ≡ true
-found_weaker p q f [] w h = refl
-found_weaker p q f (n ∷ ns) w h =
-    let r = both_true (elim (f n) [ None ↦ false | Some t ↦ p t ]) (all_found p f ns) h in
-    and_true (elim (f n) [ None ↦ false | Some t ↦ q t ]) (all_found q f ns) (by_tree (f n) r.0) (found_weaker p q f ns w r.1)
-  where
-    by_tree : (o : Option Tree) → elim o [ None ↦ false | Some t ↦ p t ] ≡ true → elim o [ None ↦ false | Some t ↦ q t ] ≡ true
-    by_tree None e = e
-    by_tree (Some t) e = w t e
-
-pub closed_upto : (j k : ℕ) (f : ℕ → Option Tree) (ns : List ℕ) → j ≤ k → closed j f ns ≡ true → closed k f ns ≡ true
-closed_upto zero zero f ns l h = h
-closed_upto zero (suc k) f [] l h = refl
-closed_upto zero (suc k) f (n ∷ ns) l h = absurd (true≢false (sym h))
-closed_upto (suc j) zero f ns l h = absurd (omega arith)
-closed_upto (suc j) (suc k) f ns l h = found_weaker (λ t. closed j f (numbers_in t)) (λ t. closed k f (numbers_in t)) f ns (λ t e. closed_upto j k f (numbers_in t) (omega arith) e) h
-
 one_closed : (k : ℕ) (f : ℕ → Option Tree) (n : ℕ) (t : Tree) → f n ≡ Some t → closed k f (numbers_in t) ≡ true → closed (suc k) f (n ∷ []) ≡ true
 one_closed k f n t e h = ap (λ o. elim o [ None ↦ false | Some u ↦ closed k f (numbers_in u) ] && true) e ∙ ap (λ c. c && true) h
-
-pub none_closed : (k : ℕ) (f : ℕ → Option Tree) → closed k f [] ≡ true
-none_closed zero f = refl
-none_closed (suc k) f = refl
 
 -- the tree that is held at a number
 pub record HeldAt (mark : ℕ → List ℕ → List ℕ) (f : ℕ → Option Tree) (p : Part) : Type 0 where

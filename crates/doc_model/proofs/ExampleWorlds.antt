@@ -1,5 +1,8 @@
 -- Processes for the worked examples: views as handler steps, and what a browser is sent and shows.
-use Rattle.std.proofs.Common.{◌≡◌, ℕ, ℤ, List, [], ◌∷◌, ◌++◌, map, Result, Ok, Err, Option, Some, None, option_map, Bool, codes, if◌then◌else◌}
+use Rattle.std.specs.Str.{is_utf8}
+use Rattle.std.proofs.lemmas.Str.{is_utf8-from_IsUtf8}
+use Rattle.json.proofs.Printed.Utf8.{are_ascii, IsUtf8-are_ascii}
+use Rattle.std.proofs.Common.{◌≡◌, true, ℕ, ℤ, List, [], ◌∷◌, map, Ok, Err, Option, Some, None, option_map, codes, if◌then◌else◌}
 use Rattle.std.specs.Str.{bytes_eq}
 use Rattle.serde_json.specs.Written.{compact_text}
 use Rattle.value_core.specs.Value.{Value, nil, map_of, Assigns, no_assigns, assign}
@@ -7,22 +10,30 @@ use Rattle.ast_core.specs.Syntax.{Expr, Nodes, Linked}
 use Rattle.diff_tree.specs.Container.{Row}
 use Rattle.diff_tree.specs.Client.{show_tree}
 use Rattle.diff_tree.specs.Spelling.{page_tree_json, page_diff_json}
-use Rattle.diff_tree.specs.Frame.{Frame, FrameBody, rendered, changed, push, client_takes_all}
+use Rattle.diff_tree.specs.Frame.{Frame, FrameBody, rendered, changed, push, frame_json, client_takes_all}
 use Rattle.doc_model.specs.Environment.{with_key}
 use Rattle.doc_model.specs.Evaluation.{Res, eval_expr}
 use Rattle.doc_model.specs.Bundle.{site_of}
-use Rattle.view_api.specs.Effect.{Effect, assign_to, stream_insert, stream_delete}
+use Rattle.view_api.specs.Effect.{Effect, assign_to, stream_insert, stream_delete, stream_reset}
 use Rattle.view_api.specs.Meaning.{Handler, of_view, of_module, ViewMeaning}
-use Rattle.doc_model.specs.Message.{MessageHead, plain_value, Message, join, event}
+use Rattle.wire_v2.specs.Message.{MessageHead, plain_value, Message, join, event}
 use Rattle.doc_model.specs.Process.{World, Route, begin_state, page_text, Stepped, step_message}
-use Rattle.doc_model.specs.Journal.{spelled}
 use Rattle.doc_model.proofs.ExampleParts.{scope}
 
--- what a handler does: `["assign", NAME, E]`, and a stream's insert (with its dom id) and delete
+-- a text of ASCII is UTF-8
+pub utf8 : (t : List ℕ) → are_ascii t ≡ true → is_utf8 t ≡ true
+utf8 t h = is_utf8-from_IsUtf8 t (IsUtf8-are_ascii t h)
+
+-- the first three items of a message
+abbrev pub head_with : Option (List ℕ) → Option (List ℕ) → List ℕ → MessageHead
+head_with j r t = record { join_reference = j; reference = r; topic = t }
+
+-- what a handler does: an assign, and a stream's insert (with the dom id), delete and reset
 pub data Step : Type 0 where
   assign_step : List ℕ → Expr → Step
   insert_step : List ℕ → List ℕ → Expr → ℤ → Option ℤ → Step
   delete_step : List ℕ → List ℕ → Step
+  reset_step : List ℕ → Step
 
 -- steps under the name of their event
 abbrev pub Events : Type 0
@@ -42,6 +53,7 @@ effects_of [] as' = Some []
 effects_of (assign_step n e ∷ ss) as' = where_ok (eval_expr (scope as') e) (λ v. before (assign_to n v) (effects_of ss (with_key n v as')))
 effects_of (insert_step s id e at limit ∷ ss) as' = where_ok (eval_expr (scope as') e) (λ v. before (stream_insert s id v at limit) (effects_of ss as'))
 effects_of (delete_step s id ∷ ss) as' = before (stream_delete s id) (effects_of ss as')
+effects_of (reset_step s ∷ ss) as' = before (stream_reset s) (effects_of ss as')
 
 -- an event without an entry raises
 abbrev pub event_effects : Events → List ℕ → Assigns → Option (List Effect)
@@ -90,16 +102,19 @@ head r = record { join_reference = Some (codes "1"); reference = Some r; topic =
 abbrev pub joined : World → Stepped
 joined w = step_message w begin_state [] (join (head (codes "1")) (codes "/"))
 
--- an event of a component (0 for the view) after this step, with the empty map as its value
+-- an event of the view, or of the component of a number, after this step, with the empty map as its value
+abbrev pub event_of : World → Stepped → List ℕ → Option ℕ → List ℕ → Stepped
+event_of w s r n name = step_message w s.state s.inbox (event (head r) name (plain_value (map_of no_assigns)) n)
+
 abbrev pub event_to : World → Stepped → List ℕ → ℕ → List ℕ → Stepped
-event_to w s r n name = step_message w s.state s.inbox (event (head r) name (plain_value (map_of no_assigns)) n)
+event_to w s r n name = event_of w s r (Some n) name
 
 abbrev pub event_after : World → Stepped → List ℕ → List ℕ → Stepped
-event_after w s r name = event_to w s r 0 name
+event_after w s r name = event_of w s r None name
 
 -- the frames as they are sent
 abbrev pub frames_text : Stepped → List (List ℕ)
-frames_text s = spelled s.frames
+frames_text s = map (λ f. compact_text (frame_json f)) s.frames
 
 -- the trees and the diffs in frames, as JSON
 abbrev pub carried : List Frame → List (List ℕ)

@@ -5,7 +5,7 @@ use Rattle.json.specs.Print.{escape_byte}
 use Rattle.ast_core.specs.Syntax.{Attributes, no_attributes, valued, nil_of, boolean_of, put, no_nodes}
 use Rattle.doc_model.specs.Process.{World, Stepped}
 use Rattle.doc_model.proofs.ExampleParts.{tag, place, one, all_nodes, put_assign, quote, assigned, list_expr}
-use Rattle.doc_model.proofs.ExampleWorlds.{assign_step, page_alone, joined, event_after, frames_text, carried_text, client_page, full_page}
+use Rattle.doc_model.proofs.ExampleWorlds.{assign_step, page_alone, joined, event_after, carried_text, client_page, full_page}
 
 abbrev attributes : Attributes
 attributes =

@@ -3,10 +3,10 @@ use Rattle.std.proofs.Common.{◌≡◌, ℕ, List, [], ◌∷◌, ◌++◌, map
 use Rattle.std.specs.Fmt.{digits}
 use Rattle.json.specs.Print.{escape_byte}
 use Rattle.ast_core.specs.declared.operators.UnaryOp.TheVariants.{Not}
-use Rattle.ast_core.specs.Syntax.{Expr, boolean_of, unary, named, no_attributes, if_place, for_place, Nodes}
+use Rattle.ast_core.specs.Syntax.{boolean_of, unary, named, no_attributes, if_place, for_place, Nodes}
 use Rattle.doc_model.specs.Process.{World, Stepped}
 use Rattle.doc_model.proofs.ExampleParts.{tag, place, one, put_assign, put_variable, quote, int, assigned, list_expr}
-use Rattle.doc_model.proofs.ExampleWorlds.{Step, assign_step, page_alone, joined, event_after, frames_text, carried_text, client_page, full_page}
+use Rattle.doc_model.proofs.ExampleWorlds.{Step, assign_step, page_alone, joined, event_after, carried_text, client_page, full_page}
 
 abbrev bold : List ℕ → Nodes
 bold k = one (tag (codes "b") no_attributes (one (put_assign k)))

@@ -1,10 +1,10 @@
 -- Worked examples: what raises puts the process down, and a join brings it back.
-use Rattle.std.proofs.Common.{◌≡◌, ℕ, List, [], ◌∷◌, ◌++◌, Some, None, Ok, true, codes, refl}
+use Rattle.std.proofs.Common.{◌≡◌, ℕ, List, [], ◌∷◌, ◌++◌, Some, None, Ok, codes, refl}
 use Rattle.std.specs.Fmt.{digits}
 use Rattle.json.specs.Print.{escape_byte}
 use Rattle.ast_core.specs.declared.operators.BinaryOp.TheVariants.{Plus}
 use Rattle.ast_core.specs.Syntax.{binary, no_attributes, put}
-use Rattle.doc_model.specs.Message.{MessageHead, join}
+use Rattle.wire_v2.specs.Message.{join}
 use Rattle.doc_model.specs.Process.{World, Stepped, step_message}
 use Rattle.doc_model.proofs.ExampleParts.{tag, place, one, all_nodes, quote, int, assigned}
 use Rattle.doc_model.proofs.ExampleCounter.{counter_world, live_named, live_valued}

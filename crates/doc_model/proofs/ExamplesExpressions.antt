@@ -6,7 +6,7 @@ use Rattle.value_core.specs.declared.raise.Raise.TheVariants.{NoAssign, NoKey, B
 use Rattle.ast_core.specs.declared.operators.UnaryOp.TheVariants.{Minus as Negative}
 use Rattle.ast_core.specs.declared.operators.BinaryOp.TheVariants as op
 use Rattle.ast_core.specs.declared.operators.Function.TheVariants as call
-use Rattle.ast_core.specs.Syntax.{Expr, number, text_of, nil_of, boolean_of, list_of, field, index, unary, binary, call_of, no_exprs, no_parts, plain, put_part}
+use Rattle.ast_core.specs.Syntax.{Expr, text_of, nil_of, boolean_of, field, index, unary, binary, call_of, no_exprs, no_parts, plain, put_part}
 use Rattle.ast_core.specs.ExprView.{exprs_of, left_chain, right_chain, pipes_of}
 use Rattle.doc_model.specs.Evaluation.{Res, eval_expr}
 use Rattle.doc_model.proofs.ExampleParts.{scope, quote, int, assigned, list_expr, map_expr}
@@ -77,7 +77,7 @@ example_expression_samples_and = refl
 example_expression_samples_kinds : value_of (left_chain (int 1) ((op.Less, quote (codes "a")) ∷ [])) ≡ Err BadArgument
 example_expression_samples_kinds = refl
 
--- operands come before their kinds: `nil + @x`, and `[1] - @x` likewise
+-- operands come before their kinds: `nil + @x`
 example_operands_first : value_of (binary op.Plus nil_of (assigned (codes "x"))) ≡ Err NoAssign
 example_operands_first = refl
 
@@ -103,7 +103,14 @@ example_index_key = refl
 example_get_key : value_of (call_of call.Get (exprs_of (map_expr [] ∷ nil_of ∷ []))) ≡ Err BadArgument
 example_get_key = refl
 
--- the least number by -1: its quotient has no 64 bits, and so has its rest none
+-- `Enum.join([1], 2)`, and an item without a text where the kinds are right: `Enum.join([[]], ",")`
+example_join_kind : value_of (call_of call.Join (exprs_of (list_expr (int 1 ∷ []) ∷ int 2 ∷ []))) ≡ Err BadArgument
+example_join_kind = refl
+
+example_join_item : value_of (call_of call.Join (exprs_of (list_expr (list_expr [] ∷ []) ∷ quote (codes ",") ∷ []))) ≡ Err NotPrintable
+example_join_item = refl
+
+-- the least number by -1: where the quotient has no 64 bits, the rest raises too
 abbrev least : Expr
 least = binary op.Minus (minus 9223372036854775807) (int 1)
 
@@ -123,6 +130,6 @@ example_arguments_first = refl
 example_argument_count : value_of (call_of call.Length (exprs_of (int 1 ∷ int 2 ∷ int 3 ∷ int 4 ∷ []))) ≡ Err BadArgument
 example_argument_count = refl
 
--- a bare comparison of equal kinds, by bytes: `"B" < "a"`
+-- texts are compared by bytes: `"B" < "a"`
 example_bytes : value_of (binary op.Less (quote (codes "B")) (quote (codes "a"))) ≡ Ok (boolean true)
 example_bytes = refl

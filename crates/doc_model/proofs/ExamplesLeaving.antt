@@ -1,8 +1,8 @@
 -- Worked examples: heartbeat and leave.
-use Rattle.std.proofs.Common.{◌≡◌, ℕ, List, [], ◌∷◌, ◌++◌, Some, None, codes, refl}
+use Rattle.std.proofs.Common.{◌≡◌, [], ◌∷◌, ◌++◌, Some, None, codes, refl}
 use Rattle.std.specs.Fmt.{digits}
 use Rattle.json.specs.Print.{escape_byte}
-use Rattle.doc_model.specs.Message.{MessageHead, beat, leave}
+use Rattle.wire_v2.specs.Message.{beat, leave}
 use Rattle.doc_model.specs.Process.{Stepped, step_message}
 use Rattle.doc_model.proofs.ExamplesPages.{counting, start}
 use Rattle.doc_model.proofs.ExampleWorlds.{frames_text, client_page}
@@ -14,24 +14,24 @@ abbrev left : Stepped
 left = step_message counting beaten.state [] (leave (record { join_reference = Some (codes "1"); reference = Some (codes "3"); topic = codes "lv:A" }))
 
 -- a heartbeat is answered under no join reference, and changes nothing
-example_heartbeat_frames : frames_text beaten ≡ codes "[null,\"2\",\"phoenix\",\"phx_reply\",{\"response\":{},\"status\":\"ok\"}]" ∷ []
+example_heartbeat_and_leave_beat_frames : frames_text beaten ≡ codes "[null,\"2\",\"phoenix\",\"phx_reply\",{\"response\":{},\"status\":\"ok\"}]" ∷ []
 unfolding digits escape_byte
-example_heartbeat_frames = refl
+example_heartbeat_and_leave_beat_frames = refl
 
-example_heartbeat_shown : client_page counting (start.frames ++ beaten.frames) ≡ Some (Some (codes "<p>0</p>"))
+example_heartbeat_and_leave_beat_shown : client_page counting (start.frames ++ beaten.frames) ≡ Some (Some (codes "<p>0</p>"))
 unfolding digits
-example_heartbeat_shown = refl
+example_heartbeat_and_leave_beat_shown = refl
 
 -- leave: the reply, then the end of the page
-example_leave_frames : frames_text left
+example_heartbeat_and_leave_frames : frames_text left
     ≡ codes "[\"1\",\"3\",\"lv:A\",\"phx_reply\",{\"response\":{},\"status\":\"ok\"}]" ∷ codes "[\"1\",\"1\",\"lv:A\",\"phx_close\",{}]" ∷ []
 unfolding digits escape_byte
-example_leave_frames = refl
+example_heartbeat_and_leave_frames = refl
 
-example_leave_state : left.state ≡ record { generation = 1; page = None }
+example_heartbeat_and_leave_state : left.state ≡ record { generation = 1; page = None }
 unfolding digits
-example_leave_state = refl
+example_heartbeat_and_leave_state = refl
 
-example_leave_shown : client_page counting (start.frames ++ (beaten.frames ++ left.frames)) ≡ Some None
+example_heartbeat_and_leave_shown : client_page counting (start.frames ++ (beaten.frames ++ left.frames)) ≡ Some None
 unfolding digits
-example_leave_shown = refl
+example_heartbeat_and_leave_shown = refl

@@ -4,9 +4,10 @@ use Rattle.std.specs.Fmt.{digits}
 use Rattle.json.specs.Print.{escape_byte}
 use Rattle.ast_core.specs.declared.operators.BinaryOp.TheVariants.{Plus, Minus}
 use Rattle.ast_core.specs.Syntax.{Expr, binary, no_attributes, no_nodes}
-use Rattle.doc_model.specs.Process.{World, Stepped}
+use Rattle.wire_v2.specs.Message.{join}
+use Rattle.doc_model.specs.Process.{World, Stepped, begin_state, step_message}
 use Rattle.doc_model.proofs.ExampleParts.{tag, one, put_assign, int, assigned}
-use Rattle.doc_model.proofs.ExampleWorlds.{Step, assign_step, page_alone, joined, event_after, frames_text, carried_text, client_page, full_page}
+use Rattle.doc_model.proofs.ExampleWorlds.{Step, assign_step, page_alone, head, joined, event_after, frames_text, carried_text, client_page, full_page}
 
 abbrev to_n : Expr → List Step
 to_n e = assign_step (codes "n") e ∷ []
@@ -45,6 +46,17 @@ example_smallest_page_shown = refl
 example_smallest_page_rendered : full_page counting start ≡ Some (Ok (codes "<p>0</p>"))
 unfolding digits
 example_smallest_page_rendered = refl
+
+-- another URL has no view: the join is refused, and nothing comes up
+abbrev lost : Stepped
+lost = step_message counting begin_state [] (join (head (codes "1")) (codes "/x"))
+
+example_smallest_page_no_route_frames : frames_text lost ≡ codes "[\"1\",\"1\",\"lv:A\",\"phx_reply\",{\"response\":{\"reason\":\"no route\"},\"status\":\"error\"}]" ∷ []
+unfolding digits escape_byte
+example_smallest_page_no_route_frames = refl
+
+example_smallest_page_no_route_state : lost.state ≡ begin_state
+example_smallest_page_no_route_state = refl
 
 -- counter event: the one place is sent
 example_counter_event_diff : carried_text (event (codes "inc")) ≡ codes "{\"0\":\"1\"}" ∷ []

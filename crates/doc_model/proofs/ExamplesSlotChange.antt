@@ -1,5 +1,5 @@
 -- Worked examples: a change inside a slot, also through two calls.
-use Rattle.std.proofs.Common.{◌≡◌, List, [], ◌∷◌, ◌++◌, Some, Ok, codes, refl}
+use Rattle.std.proofs.Common.{◌≡◌, [], ◌∷◌, ◌++◌, Some, Ok, codes, refl}
 use Rattle.std.specs.Fmt.{digits}
 use Rattle.json.specs.Print.{escape_byte}
 use Rattle.ast_core.specs.Syntax.{nil_of, any, no_attributes, call, render_slot, Nodes, Body, slot_body, no_entries, Template}

@@ -1,11 +1,11 @@
 -- Worked examples: a table with slots.
-use Rattle.std.proofs.Common.{◌≡◌, ℕ, List, [], ◌∷◌, ◌++◌, Option, Some, None, Ok, codes, refl}
+use Rattle.std.proofs.Common.{◌≡◌, ℕ, List, [], ◌∷◌, ◌++◌, Some, None, Ok, codes, refl}
 use Rattle.std.specs.Fmt.{digits}
 use Rattle.json.specs.Print.{escape_byte}
 use Rattle.ast_core.specs.Syntax.{Expr, field, named, no_attributes, written, double_quoted, valued, put, for_place, call, render_slot, Nodes, Body, slot_body, Entries, no_entries, entry, Linked}
 use Rattle.doc_model.specs.Process.{World, Stepped}
 use Rattle.doc_model.proofs.ExampleParts.{here, tag, place, words, one, all_nodes, no_body, quote, int, assigned, variable, list_expr, map_expr}
-use Rattle.doc_model.proofs.ExampleWorlds.{Step, assign_step, scripted, world_of, joined, event_after, frames_text, carried_text, client_page, full_page}
+use Rattle.doc_model.proofs.ExampleWorlds.{Step, assign_step, scripted, world_of, joined, event_after, carried_text, client_page, full_page}
 
 -- `<table><tr :for={r <- @rows}><td :for={c <- @col}>{c.label}:{render_slot(c, r)}</td></tr></table>`
 abbrev cells : Nodes

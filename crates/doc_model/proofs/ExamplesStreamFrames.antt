@@ -2,10 +2,10 @@
 use Rattle.std.proofs.Common.{◌≡◌, ℕ, ℤ, pos, negsuc, List, [], ◌∷◌, ◌++◌, Option, Some, None, Ok, codes, refl}
 use Rattle.std.specs.Fmt.{digits}
 use Rattle.json.specs.Print.{escape_byte}
-use Rattle.ast_core.specs.Syntax.{Expr, field, named, no_attributes, written, double_quoted, valued, put, stream_place, Nodes}
+use Rattle.ast_core.specs.Syntax.{field, named, no_attributes, written, double_quoted, valued, put, stream_place, Nodes}
 use Rattle.doc_model.specs.Process.{World, Stepped}
 use Rattle.doc_model.proofs.ExampleParts.{tag, place, one, quote, int, variable, map_expr}
-use Rattle.doc_model.proofs.ExampleWorlds.{Step, insert_step, delete_step, page_alone, joined, event_after, carried_text, client_page, full_page, container}
+use Rattle.doc_model.proofs.ExampleWorlds.{Step, insert_step, delete_step, reset_step, page_alone, joined, event_after, carried_text, client_page, full_page, container}
 
 -- `<li :for={{d, x} <- @streams.m} id={d}>{x.t}</li>`
 abbrev rows : Nodes
@@ -27,6 +27,7 @@ streaming = page_alone list (insert (codes "m-1") 1 (codes "a") (negsuc 0) None 
     ∷ (codes "move", delete_step (codes "m") (codes "m-1") ∷ insert (codes "m-1") 1 (codes "a") (negsuc 0) None ∷ [])
     ∷ (codes "again", insert (codes "m-3") 3 (codes "C") (negsuc 0) None ∷ [])
     ∷ (codes "limit", insert (codes "m-4") 4 (codes "d") (negsuc 0) (Some (negsuc 1)) ∷ [])
+    ∷ (codes "reset", reset_step (codes "m") ∷ insert (codes "m-5") 5 (codes "e") (negsuc 0) None ∷ [])
     ∷ [])
 
 abbrev two : Stepped
@@ -97,3 +98,12 @@ example_stream_operations_limited_shown = refl
 
 example_stream_operations_limited_rendered : full_page streaming limited ≡ Some (Ok (page (codes "<li id=\"m-1\">a</li><li id=\"m-4\">d</li>")))
 example_stream_operations_limited_rendered = refl
+
+-- a reset is told behind the deletes
+example_stream_operations_reset_diff : carried_text (event_after streaming two (codes "2") (codes "reset"))
+    ≡ codes "{\"0\":{\"d\":[[\" id=\\\"m-5\\\"\",\"e\"]],\"stream\":[\"m\",[[\"m-5\",-1,null]],[],true]}}" ∷ []
+unfolding digits escape_byte
+example_stream_operations_reset_diff = refl
+
+example_stream_operations_reset_shown : client_page streaming (two.frames ++ (event_after streaming two (codes "2") (codes "reset")).frames) ≡ Some (Some (page (codes "<li id=\"m-5\">e</li>")))
+example_stream_operations_reset_shown = refl

@@ -1,23 +1,19 @@
 -- After a merge the numbers of components are good, and exactly the components that were met are held.
-use Rattle.std.proofs.Common.{◌≡◌, ℕ, zero, suc, ◌+◌, ◌≤◌, List, [], ◌∷◌, ◌++◌, Option, Some, None, Ok, Bool, true, false, ◌&&◌, ◌==◌, if◌then◌else◌, refl, sym, ap, ◌∙◌, subst, arith, true≢false, ◌⊎◌, inl, inr}
+use Rattle.std.proofs.Common.{◌≡◌, ℕ, ◌≤◌, List, [], ◌∷◌, ◌++◌, Option, Some, None, Bool, true, false, ◌&&◌, ◌==◌, if◌then◌else◌, refl, sym, ap, ◌∙◌, subst, arith, true≢false, inl, inr}
 use Rattle.std.proofs.lemmas.Bool.Decides.{Decides-eqb}
-use Rattle.ast_core.specs.Syntax.{Nodes}
 use Rattle.ast_core.specs.Places.{cut}
 use Rattle.diff_tree.specs.Tree.{Tree, Change, opened, opened_all}
-use Rattle.diff_tree.specs.Client.{PageTree, among, numbers_in, closed, reached, only_among, dropped, judged, with_number, with_numbers, merge_parts, merge_diff, opened_tree, and_then}
-use Rattle.doc_model.specs.Environment.{Env}
+use Rattle.diff_tree.specs.Client.{PageTree, among, numbers_in, closed, reached, dropped, judged, with_number, with_numbers, merge_parts, opened_tree, and_then}
+use Rattle.diff_tree.proofs.Closed.{none_closed, closed_append}
 use Rattle.doc_model.specs.Trace.{Items}
 use Rattle.doc_model.specs.Whole.{whole_places}
 use Rattle.doc_model.specs.Holding.{Fresh}
-use Rattle.doc_model.specs.Tracing.{trace}
-use Rattle.doc_model.specs.Scopes.{Site}
-use Rattle.doc_model.specs.Components.{Part, parts, part_at, part_numbers, AllAmong, AllOf, HoldsNode, HoldsOption, HoldsPart, HoldsNoOther, HeldTree, Distinct, depth, Follows, whole_tree, lean_diff, lean_part, lean_parts, numbered, option_tree}
+use Rattle.doc_model.specs.Components.{Part, parts, part_at, part_numbers, AllAmong, AllOf, HoldsNode, HoldsOption, HoldsPart, HoldsNoOther, HeldTree, depth, whole_tree, lean_diff, lean_part, lean_parts, numbered, option_tree}
 use Rattle.doc_model.specs.Laws.{Gives, MergeLeanWhole, TakenWhole}
-use Rattle.doc_model.proofs.Sames.{both_true}
 use Rattle.doc_model.proofs.Wholes.{Good}
 use Rattle.doc_model.proofs.Merges.{opened_holds}
 use Rattle.doc_model.proofs.Origins.{all_weaker, all_both}
-use Rattle.doc_model.proofs.Closed.{met, none_closed, node_numbers, closed_append, closed_upto, HeldAt, held_at, Stands, met_closed, parts_closed}
+use Rattle.doc_model.proofs.Closed.{met, node_numbers, HeldAt, held_at, Stands, met_closed, parts_closed}
 use Rattle.doc_model.proofs.Reached.{There, parts_reached, known, at_number, reached_known, among_all, only_known}
 use Rattle.doc_model.proofs.Pages.{all_found, good_of, goods, Parts, lean_parts_merge}
 

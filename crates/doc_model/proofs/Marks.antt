@@ -1,19 +1,18 @@
 -- The first tag of a LiveComponent's text is its root element.
-use Rattle.std.proofs.Common.{◌≡◌, ℕ, zero, suc, List, [], ◌∷◌, ◌++◌, Result, Ok, Err, Option, Some, None, Bool, true, false, ◌&&◌, ◌||◌, not, ◌==◌, if◌then◌else◌, refl, sym, ap, ◌∙◌, subst, append_assoc, codes, true≢false}
+use Rattle.std.proofs.Common.{◌≡◌, ℕ, zero, suc, List, [], ◌∷◌, ◌++◌, Ok, Err, Bool, true, false, ◌&&◌, ◌||◌, not, ◌==◌, if◌then◌else◌, refl, sym, ap, ◌∙◌, subst, append_assoc, codes, true≢false}
 use Rattle.std.specs.Str.{bytes_eq}
-use Rattle.std.specs.Fmt.{decimal}
 use Rattle.std.proofs.lemmas.Bool.Decides.{Decides-eqb}
 use Rattle.value_core.specs.Value.{Value, nil, boolean, whole_number, text, atom, list, tuple, map_of, slot, Values, Assigns, no_assigns, assign}
 use Rattle.value_core.specs.declared.raise.Raise.TheVariants.{BadArgument, NotPrintable}
-use Rattle.ast_core.specs.Syntax.{Written, double_quoted, single_quoted, bare, Attributes, no_attributes, written, valued, spread_of, module_of, Node, text_node, element, at_place, attribute, spread, Nodes, no_nodes, node}
-use Rattle.ast_core.specs.Places.{written_text, opening, closing}
+use Rattle.ast_core.specs.Syntax.{Written, double_quoted, single_quoted, bare, Attributes, no_attributes, written, valued, spread_of, module_of, text_node, element, at_place, attribute, spread, Nodes, no_nodes, node}
+use Rattle.ast_core.specs.Places.{written_text, closing}
 use Rattle.diff_tree.specs.Mark.{mark_text, begins_lower, ends_name, after_name, with_mark}
 use Rattle.doc_model.specs.Environment.{Env}
-use Rattle.doc_model.specs.Evaluation.{Res, then_do, both, on_res, eval_expr, printed}
-use Rattle.doc_model.specs.Printing.{with_spaces, class_items, equals, left_out, print_attribute, is_attribute_name, entry_texts, print_spread}
+use Rattle.doc_model.specs.Evaluation.{Res, both, on_res, eval_expr, printed}
+use Rattle.doc_model.specs.Printing.{with_spaces, class_items, equals, print_attribute, is_attribute_name, entry_texts, print_spread}
 use Rattle.doc_model.specs.Calls.{is_space, all_space}
 use Rattle.doc_model.specs.Scopes.{Site, Deeper}
-use Rattle.doc_model.specs.FullRendering.{full_render, full_attributes, full_node, full_nodes, full_place, element_text}
+use Rattle.doc_model.specs.FullRendering.{full_render, full_attributes, full_nodes, full_place, element_text}
 use Rattle.doc_model.specs.Mark.{none_ends_name, is_tag_name, IsLiveRoot, marked_root, MarkIsAtRoot}
 use Rattle.doc_model.proofs.Results.{On, on_made, on_bind, on_both, on_all}
 use Rattle.doc_model.proofs.Sames.{both_true}

@@ -1,5 +1,5 @@
 -- Environments that agree on the names of an expression give it the same value.
-use Rattle.std.proofs.Common.{◌≡◌, ℕ, List, [], ◌∷◌, ◌++◌, Option, Some, None, Bool, true, false, ◌&&◌, if◌then◌else◌, refl, sym, ap, ◌∙◌}
+use Rattle.std.proofs.Common.{◌≡◌, ℕ, List, [], ◌∷◌, ◌++◌, Option, Some, None, Bool, true, false, if◌then◌else◌, refl, sym, ap, ◌∙◌}
 use Rattle.std.specs.Str.{bytes_eq}
 use Rattle.value_core.specs.Value.{Value, list, text, tuple, map_of, Values, no_values, value, Assigns, no_assigns, assign, same}
 use Rattle.ast_core.specs.Syntax.{Name, at, var, Expr, number, text_of, nil_of, boolean_of, name, list_of, map_with, field, atom_of, tuple_of, index, unary, binary, if_else, call_of, Exprs, no_exprs, expr, Pairs, no_pairs, pair, Parts, no_parts, plain, put_part, Pattern, any, named, literal, tuple_like, list_like, map_like, Patterns, no_patterns, pattern, PatternPairs, no_keys, key}

@@ -1,10 +1,10 @@
 -- The numbers of components that stand in trees.
-use Rattle.std.proofs.Common.{◌≡◌, ℕ, zero, suc, List, [], ◌∷◌, ◌++◌, map, refl, sym, ap, ◌∙◌}
+use Rattle.std.proofs.Common.{◌≡◌, ℕ, List, [], ◌∷◌, ◌++◌, map, refl, sym, ap, ◌∙◌}
 use Rattle.diff_tree.specs.Container.{Row, Batch, after, contents}
-use Rattle.diff_tree.specs.Tree.{Tree, Trees, no_trees, tree, Rows, no_rows, row, Held, none_held, hold, held_list, held_of, row_list, opened, opened_all, opened_rows}
+use Rattle.diff_tree.specs.Tree.{Trees, Rows, no_rows, row, Held, none_held, hold, held_list, held_of, row_list, opened, opened_all, opened_rows}
 use Rattle.diff_tree.specs.Client.{numbers_in, numbers_in_all, numbers_in_rows, numbers_in_held}
 use Rattle.doc_model.specs.Trace.{Items, no_items, item, Item, met_text, met_nothing, met_branch, met_rows, met_call, met_slots, met_component, met_stream, ItemRows, no_item_rows, item_row, Slots, no_slots, slot_of}
-use Rattle.doc_model.specs.Whole.{whole_places, whole_place, whole_rows, whole_slots, rows_tree, slots_tree}
+use Rattle.doc_model.specs.Whole.{whole_places, whole_place, whole_rows, whole_slots}
 use Rattle.doc_model.proofs.Wholes.{Still, StillItem, StillRows, StillSlots, after-map}
 
 pub append_none : {A : Type 0} (a b : List A) → a ++ b ≡ [] → (a ≡ []) × (b ≡ [])

@@ -1,13 +1,13 @@
 -- The one-pass law: what a pass meets is the trace of the state that it leaves.
-use Rattle.std.proofs.Common.{◌≡◌, ◌⊎◌, ℕ, zero, suc, nat_lt, List, [], ◌∷◌, ◌++◌, map, Ok, Err, Option, Some, None, Bool, true, false, ◌&&◌, ◌==◌, if◌then◌else◌, refl, sym, ap, ◌∙◌, true≢false}
+use Rattle.std.proofs.Common.{◌≡◌, ℕ, zero, suc, nat_lt, List, [], ◌∷◌, ◌++◌, map, Ok, Err, Option, Some, None, Bool, true, false, ◌&&◌, ◌==◌, if◌then◌else◌, refl, sym, ap, ◌∙◌, true≢false}
 use Rattle.std.specs.Str.{bytes_eq}
 use Rattle.std.proofs.lemmas.Bool.Decides.{Decides-eqb}
 use Rattle.std.proofs.lemmas.Slice.Eq.{bytes_eq-Decides}
 use Rattle.value_core.specs.Value.{Value, Values, Assigns, same, same_assigns}
 use Rattle.ast_core.specs.Syntax.{Name, Expr, Attributes, Body, Entries, Place, put, attribute, spread, if_place, case_place, for_place, call, render_slot, live_call, stream_place, Nodes, no_nodes, node}
-use Rattle.ast_core.specs.Free.{free_names, free_pairs, free_entries, free_place}
+use Rattle.ast_core.specs.Free.{free_names, free_place}
 use Rattle.doc_model.specs.Environment.{Component, Env, binding, bindings, bind, inside, reading, find}
-use Rattle.doc_model.specs.Evaluation.{Res, then_do, both, on_res, eval_expr, printed, is_true, eval_pairs}
+use Rattle.doc_model.specs.Evaluation.{Res, then_do, both, on_res, eval_expr, printed, is_true}
 use Rattle.text_core.specs.Escape.{escape_text}
 use Rattle.doc_model.specs.Printing.{print_attribute, print_spread}
 use Rattle.value_core.specs.declared.raise.Raise.TheVariants.{NoClause, Duplicate, Range}
@@ -19,7 +19,7 @@ use Rattle.diff_tree.specs.Client.{among}
 use Rattle.doc_model.specs.Walk.{Owner, Views, Walk, component_with, owner_of, with_changed, Step, plainly, and_so, giving, in_turn, begin, go_on, reach_found, reach, Onward, pass_rows, pass_slot, pass_slots, pass_else, pass_place, pass_places, pass, swept, at_end_of_walk, in_state, OnePass}
 use Rattle.doc_model.proofs.Results.{On}
 use Rattle.doc_model.proofs.Sames.{both_true, same_sound, same_refl}
-use Rattle.doc_model.proofs.Names.{Agree, agree_same, agree_reading, eval_agrees}
+use Rattle.doc_model.proofs.Names.{agree_same, agree_reading, eval_agrees}
 use Rattle.doc_model.proofs.Calling.{call_same, live_same}
 use Rattle.doc_model.specs.Calls.{items_of, call_assigns, live_assigns, module_in}
 

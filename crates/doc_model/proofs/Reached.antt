@@ -1,59 +1,15 @@
 -- From the root exactly the components that were met are reached.
-use Rattle.std.proofs.Common.{◌≡◌, ℕ, zero, suc, ◌+◌, ◌≤◌, List, [], ◌∷◌, ◌++◌, Option, Some, None, Bool, true, false, ◌&&◌, ◌==◌, if◌then◌else◌, refl, sym, ap, ◌∙◌, subst, arith, true≢false, ◌⊎◌, inl, inr, append_assoc}
+use Rattle.std.proofs.Common.{◌≡◌, ℕ, zero, suc, ◌≤◌, List, [], ◌∷◌, ◌++◌, Option, Some, None, Bool, true, false, ◌==◌, if◌then◌else◌, refl, sym, ap, ◌∙◌, subst, arith, true≢false}
 use Rattle.std.proofs.lemmas.Bool.Decides.{Decides-eqb}
 use Rattle.diff_tree.specs.Tree.{Tree}
 use Rattle.diff_tree.specs.Client.{among, numbers_in, inside, reached, only_among}
+use Rattle.diff_tree.proofs.Among.{among_left, among_right}
+use Rattle.diff_tree.proofs.Closed.{reach_left, reach_right}
 use Rattle.doc_model.specs.Trace.{Items, no_items, item, Item, met_text, met_nothing, met_branch, met_rows, met_call, met_slots, met_component, met_stream, ItemRows, no_item_rows, item_row, Slots, no_slots, slot_of}
-use Rattle.doc_model.specs.Components.{Part, parts, parts_of, parts_of_rows, parts_of_slots, part_numbers, AllAmong, AllOf, HoldsNode, depth, depth_of, depth_of_rows, depth_of_slots}
-use Rattle.doc_model.proofs.Wholes.{Good, GoodItem, GoodRows, GoodSlots}
+use Rattle.doc_model.specs.Components.{Part, parts, parts_of, parts_of_rows, parts_of_slots, part_numbers, AllAmong, AllOf, depth, depth_of, depth_of_rows, depth_of_slots}
+use Rattle.doc_model.proofs.Wholes.{Good}
 use Rattle.doc_model.proofs.Origins.{all_left, all_right, all_weaker}
 use Rattle.doc_model.proofs.Closed.{met, met_at, met_in_rows, met_in_slots, HeldAt, node_numbers, all_append}
-
-pub among_left : (n : ℕ) (a b : List ℕ) → among n a ≡ true → among n (a ++ b) ≡ true
-among_left n [] b h = absurd (true≢false (sym h))
-among_left n (m ∷ a) b h = by_test (n == m) h (among_left n a b)
-  where
-    by_test : (c : Bool) → (if c then true else among n a) ≡ true → (among n a ≡ true → among n (a ++ b) ≡ true) → (if c then true else among n (a ++ b)) ≡ true
-    by_test true k r = refl
-    by_test false k r = r k
-
-pub among_right : (n : ℕ) (a b : List ℕ) → among n b ≡ true → among n (a ++ b) ≡ true
-among_right n [] b h = h
-among_right n (m ∷ a) b h = by_test (n == m) (among_right n a b h)
-  where
-    by_test : (c : Bool) → among n (a ++ b) ≡ true → (if c then true else among n (a ++ b)) ≡ true
-    by_test true k = refl
-    by_test false k = k
-
-among_split : (n : ℕ) (a b : List ℕ) → among n (a ++ b) ≡ true → (among n a ≡ true) ⊎ (among n b ≡ true)
-among_split n [] b h = inr h
-among_split n (m ∷ a) b h = by_test (n == m) h (among_split n a b)
-  where
-    by_test : (c : Bool) → (if c then true else among n (a ++ b)) ≡ true → (among n (a ++ b) ≡ true → (among n a ≡ true) ⊎ (among n b ≡ true)) → ((if c then true else among n a) ≡ true) ⊎ (among n b ≡ true)
-    by_test true k r = inl refl
-    by_test false k r = r k
-
-inside_append : (g : ℕ → Option Tree) (a b : List ℕ) → inside g (a ++ b) ≡ inside g a ++ inside g b
-inside_append g [] b = refl
-inside_append g (n ∷ a) b =
-    ap (λ x. elim (g n) [ None ↦ [] | Some t ↦ numbers_in t ] ++ x) (inside_append g a b)
-    ∙ sym (append_assoc (elim (g n) [ None ↦ [] | Some t ↦ numbers_in t ]) (inside g a) (inside g b))
-
-reach_left : (g : ℕ → Option Tree) (k n : ℕ) (a b : List ℕ) → among n (reached k g a) ≡ true → among n (reached k g (a ++ b)) ≡ true
-reach_left g zero n a b h = h
-reach_left g (suc k) n a b h = by_side (reach_left g k n (inside g a) (inside g b)) (among_split n a (reached k g (inside g a)) h)
-  where
-    by_side : (among n (reached k g (inside g a)) ≡ true → among n (reached k g (inside g a ++ inside g b)) ≡ true) → (among n a ≡ true) ⊎ (among n (reached k g (inside g a)) ≡ true) → among n ((a ++ b) ++ reached k g (inside g (a ++ b))) ≡ true
-    by_side r (inl e) = among_left n (a ++ b) (reached k g (inside g (a ++ b))) (among_left n a b e)
-    by_side r (inr e) = among_right n (a ++ b) (reached k g (inside g (a ++ b))) (ap (λ x. among n (reached k g x)) (inside_append g a b) ∙ r e)
-
-reach_right : (g : ℕ → Option Tree) (k n : ℕ) (a b : List ℕ) → among n (reached k g b) ≡ true → among n (reached k g (a ++ b)) ≡ true
-reach_right g zero n a b h = h
-reach_right g (suc k) n a b h = by_side (reach_right g k n (inside g a) (inside g b)) (among_split n b (reached k g (inside g b)) h)
-  where
-    by_side : (among n (reached k g (inside g b)) ≡ true → among n (reached k g (inside g a ++ inside g b)) ≡ true) → (among n b ≡ true) ⊎ (among n (reached k g (inside g b)) ≡ true) → among n ((a ++ b) ++ reached k g (inside g (a ++ b))) ≡ true
-    by_side r (inl e) = among_left n (a ++ b) (reached k g (inside g (a ++ b))) (among_right n a b e)
-    by_side r (inr e) = among_right n (a ++ b) (reached k g (inside g (a ++ b))) (ap (λ x. among n (reached k g x)) (inside_append g a b) ∙ r e)
 
 itself : (n : ℕ) (ns : List ℕ) → among n (n ∷ ns) ≡ true
 itself n ns = ap (λ b. if b then true else among n ns) ((Decides-eqb n n).1 refl)

@@ -1,5 +1,5 @@
 -- What holds of results that did not raise.
-use Rattle.std.proofs.Common.{◌≡◌, [], ◌∷◌, Ok, Err, refl, ◌∙◌, subst}
+use Rattle.std.proofs.Common.{◌≡◌, Ok, Err, refl, subst}
 use Rattle.doc_model.specs.Evaluation.{Res, then_do, both, on_res}
 
 abbrev pub On : {A : Type 0} → (A → Type 0) → Res A → Type 0

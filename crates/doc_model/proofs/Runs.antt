@@ -9,7 +9,7 @@ use Rattle.doc_model.specs.Left.{Based, Unused}
 use Rattle.ast_core.specs.Places.{Once, streams_in, cut}
 use Rattle.doc_model.specs.Once.{left, left_to}
 use Rattle.doc_model.specs.Laws.{Gives}
-use Rattle.doc_model.specs.Components.{HeldTree, whole_tree, depth, Part, parts, Distinct, Lives}
+use Rattle.doc_model.specs.Components.{HeldTree, depth, Part, parts, Distinct, Lives}
 use Rattle.diff_tree.specs.Client.{show_tree}
 use Rattle.doc_model.specs.Scopes.{Site}
 use Rattle.doc_model.specs.FullRendering.{full_render}
@@ -53,7 +53,7 @@ module _ {X : Type 0} (views : Views X) (site : Site) (k : ℕ) (ns : Nodes) (ho
       let f = next_follows X views site k k (in_state t.after.components t.env) u.env ns t.items u.items (left site.mark t.items) (left_to site.mark t.items) u.before u.after honest tb e lb h.2 h.3 h.0 in
       ((traced u h.0, f.1), f.0, go u us h.0 f.1 f.2 h.4)
 
-  begins : (t : Turn X) → Joins views site k ns t → Begins site ns (rendering_of k t) × IsTable t.after.next t.after.components
+  pub begins : (t : Turn X) → Joins views site k ns t → Begins site ns (rendering_of k t) × IsTable t.after.next t.after.components
   begins t j =
       let empty_table : IsTable t.before.next t.before.components = subst (IsTable t.before.next) (sym j.1) tt in
       let s = sound_after views site k t.env ns t.items t.before t.after honest empty_table j.0 in

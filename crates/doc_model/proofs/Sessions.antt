@@ -1,20 +1,13 @@
 -- The frames since a join show the page.
-use Rattle.std.proofs.Common.{◌≡◌, ℕ, ◌≤◌, arith, List, [], ◌∷◌, Ok, Option, Some, None, option_map, refl, sym, ◌∙◌, subst, ◌+◌}
+use Rattle.std.proofs.Common.{◌≡◌, ℕ, ◌≤◌, arith, List, [], ◌∷◌, Ok, Option, Some, None, subst, ◌+◌}
 use Rattle.ast_core.specs.Syntax.{Nodes}
-use Rattle.diff_tree.specs.Tree.{opened, opened_all}
-use Rattle.doc_model.specs.Trace.{Items}
-use Rattle.doc_model.specs.Whole.{whole_places}
-use Rattle.doc_model.specs.Holding.{Fresh}
 use Rattle.doc_model.specs.Scopes.{Site}
 use Rattle.doc_model.specs.FullRendering.{full_render}
 use Rattle.ast_core.specs.Places.{cut}
-use Rattle.doc_model.specs.Components.{Part, HoldsOption, HoldsPart, HeldTree, parts, part_at, depth, whole_tree, option_tree, lean_diff}
+use Rattle.doc_model.specs.Components.{HeldTree, depth, whole_tree, lean_diff}
 use Rattle.diff_tree.specs.Client.{PageTree, show_tree, merge_diff, judged, opened_tree, and_then}
 use Rattle.doc_model.specs.Laws.{Gives}
-use Rattle.doc_model.specs.Session.{Rendering, IsRendering, Begins, GoesOn, AtMost, latest, merged, FramesShow}
-use Rattle.doc_model.proofs.Wholes.{Good}
-use Rattle.doc_model.proofs.Merges.{opened_holds}
-use Rattle.doc_model.proofs.Origins.{all_both}
+use Rattle.doc_model.specs.Session.{Rendering, IsRendering, GoesOn, AtMost, latest, merged, FramesShow}
 use Rattle.doc_model.proofs.Pages.{page_shows}
 use Rattle.doc_model.proofs.Results.{On}
 use Rattle.doc_model.proofs.Depths.{trace_depth}

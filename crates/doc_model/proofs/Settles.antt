@@ -1,11 +1,11 @@
 -- The page of the settled state is the page that the rendering showed.
-use Rattle.std.proofs.Common.{◌≡◌, ◌⊎◌, ℕ, zero, suc, List, [], ◌∷◌, ◌++◌, map, Ok, Err, Option, Some, None, Bool, true, false, ◌&&◌, if◌then◌else◌, refl, sym, ap, ◌∙◌, subst}
+use Rattle.std.proofs.Common.{◌≡◌, ℕ, zero, suc, List, [], ◌∷◌, ◌++◌, map, Ok, Err, Option, Some, None, Bool, true, false, ◌&&◌, if◌then◌else◌, refl, sym, ap, ◌∙◌, subst}
 use Rattle.std.specs.Str.{bytes_eq}
 use Rattle.value_core.specs.Value.{Value, Values, Assigns, same}
-use Rattle.ast_core.specs.Syntax.{Pattern, Expr, Pairs, Entries, Place, put, attribute, spread, if_place, case_place, for_place, call, render_slot, live_call, stream_place, Nodes, no_nodes, node, Clauses, Attributes, Body}
-use Rattle.ast_core.specs.Free.{free_names, free_pairs, free_entries, free_place}
+use Rattle.ast_core.specs.Syntax.{Pattern, Expr, Entries, Place, put, attribute, spread, if_place, case_place, for_place, call, render_slot, live_call, stream_place, Nodes, no_nodes, node, Clauses, Attributes, Body}
+use Rattle.ast_core.specs.Free.{free_names, free_place}
 use Rattle.doc_model.specs.Environment.{Stream, Component, Env, binding, bindings, bind, inside, reading, find}
-use Rattle.doc_model.specs.Evaluation.{Res, then_do, both, on_res, eval_expr, printed, is_true, eval_pairs}
+use Rattle.doc_model.specs.Evaluation.{Res, then_do, both, on_res, eval_expr, printed, is_true}
 use Rattle.text_core.specs.Escape.{escape_text}
 use Rattle.doc_model.specs.Printing.{print_attribute, print_spread}
 use Rattle.diff_tree.specs.Container.{after, contents}

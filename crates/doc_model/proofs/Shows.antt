@@ -15,6 +15,7 @@ use Rattle.doc_model.specs.Scopes.{Site, Deeper, Captured, callee, component_sco
 use Rattle.ast_core.specs.Places.{cut, places_in}
 use Rattle.doc_model.specs.FullRendering.{full_render, full_place, full_rows, full_slot, full_slots, full_else}
 use Rattle.doc_model.specs.Tracing.{trace, trace_places, trace_place, trace_rows, trace_slot, trace_slots, trace_else}
+use Rattle.doc_model.specs.Laws.{StaticsWeave}
 use Rattle.doc_model.proofs.Weave.{each, nodes_woven}
 use Rattle.doc_model.specs.Calls.{items_of, call_assigns, live_assigns, module_in}
 
@@ -116,3 +117,6 @@ trace_shown site (suc k) env ns =
     sym (fuse (texts site.mark) (weave (cut ns)) (λ is. weave (cut ns) (texts site.mark is)) (trace_places site (trace site k) env (places_in ns)) (λ a. refl))
     ∙ ap (on_res (weave (cut ns))) (places_shown site (trace site k) (full_render site k) (trace_shown site k) (places_in ns) env)
     ∙ nodes_woven site (full_render site k) env ns
+
+pub statics_weave : StaticsWeave
+statics_weave site k env ns = trace_shown site k env ns

@@ -1,12 +1,13 @@
 -- What a call passes: attribute values, and slot entries that capture the scope in which they are written.
-use Rattle.std.specs.Prelude.{ℕ, List, [], ◌∷◌, ◌++◌, Option, Some, None, Result, Ok, Err, Bool, true, false, ◌&&◌, ◌||◌, ◌==◌, nat_lt, if◌then◌else◌, codes}
+use Rattle.std.specs.Prelude.{ℕ, List, [], ◌∷◌, Option, Some, None, Ok, Err, Bool, true, false, ◌&&◌, ◌||◌, ◌==◌, nat_lt, if◌then◌else◌, codes}
 use Rattle.std.specs.Str.{bytes_eq}
 use Rattle.value_core.specs.Value.{Value, slot, list, tuple, nil, map_of, text, boolean, Values, no_values, value, Assigns, no_assigns, assign}
 use Rattle.value_core.specs.declared.raise.Raise.TheVariants.{BadArgument, Deep}
-use Rattle.ast_core.specs.Syntax.{Name, Expr, Pattern, Generator, Written, double_quoted, single_quoted, bare, Attributes, no_attributes, written, valued, spread_of, module_of, Node, text_node, element, at_place, Nodes, no_nodes, node, Body, slot_body, Entries, no_entries, entry}
-use Rattle.ast_core.specs.Free.{bound, without, free_nodes, free_body}
+use Rattle.ast_core.specs.Syntax.{Expr, Generator, Written, double_quoted, single_quoted, bare, Attributes, no_attributes, written, valued, spread_of, module_of, text_node, Nodes, no_nodes, node, Body, slot_body, Entries, no_entries, entry}
+use Rattle.ast_core.specs.Free.{bound, without, free_nodes}
 use Rattle.doc_model.specs.Environment.{Env, lookup, with_key, bind, bindings, captured_assigns, captured_variables}
-use Rattle.doc_model.specs.Evaluation.{Res, then_do, both, on_res, eval_expr, keep_last, is_true, append_values, assigns_depth}
+use Rattle.value_core.specs.Nesting.{assigns_depth}
+use Rattle.doc_model.specs.Evaluation.{Res, then_do, both, on_res, eval_expr, keep_last, is_true, append_values}
 
 -- what an attribute without braces passes: its text as written, or true
 abbrev pub written_value : Written → Value

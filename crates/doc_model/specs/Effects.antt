@@ -4,13 +4,14 @@ use Rattle.std.specs.Str.{bytes_eq}
 use Rattle.serde_json.specs.Data.{Data}
 use Rattle.serde_json.specs.Written.{compact_text}
 use Rattle.value_core.specs.Value.{Value, whole_number, Assigns, no_assigns, assign}
+use Rattle.value_core.specs.Nesting.{depth_of}
 use Rattle.value_core.specs.declared.raise.Raise.TheVariants.{BadArgument, Deep, InboxFull, View}
 use Rattle.view_api.specs.Effect.{Effect, assign_to, stream_insert, stream_delete, stream_reset, subscribe, unsubscribe, publish, send_self, push_event}
 use Rattle.view_api.specs.Meaning.{ViewMeaning}
 use Rattle.diff_tree.specs.Container.{Position, at_end, at_index, Limit, no_limit, first_few, last_few, Insert, Batch}
 use Rattle.diff_tree.specs.Spelling.{Pushed}
 use Rattle.doc_model.specs.Environment.{Stream, with_key}
-use Rattle.doc_model.specs.Evaluation.{Res, then_do, on_res, or_raise, value_depth}
+use Rattle.doc_model.specs.Evaluation.{Res, then_do, on_res, or_raise}
 use Rattle.doc_model.specs.Calls.{has_slot}
 use Rattle.value_core.specs.Json.{json_of_value}
 use Rattle.doc_model.specs.Walk.{Owner, Views}
@@ -40,11 +41,11 @@ inbox_limit = 1024
 
 -- what may be assigned or inserted: no slot, and at most 100 levels
 abbrev pub storable : Value → Res Value
-storable v = if has_slot v then Err BadArgument else if nat_lt 100 (value_depth v) then Err Deep else Ok v
+storable v = if has_slot v then Err BadArgument else if nat_lt 100 (depth_of v) then Err Deep else Ok v
 
 -- what may be published, sent or pushed: a value that is JSON, of at most 100 levels
 abbrev pub sendable : Value → Res Data
-sendable v = then_do (or_raise (json_of_value v) BadArgument) (λ d. if nat_lt 100 (value_depth v) then Err Deep else Ok d)
+sendable v = then_do (or_raise (json_of_value v) BadArgument) (λ d. if nat_lt 100 (depth_of v) then Err Deep else Ok d)
 
 -- -1 is the end, below it nothing is a position
 abbrev pub position_of : ℤ → Res Position

@@ -1,9 +1,10 @@
 -- The value of an expression, or the raise that stands in its place.
-use Rattle.std.specs.Prelude.{ℕ, suc, max, ℤ, pos, negsuc, ◌+ℤ◌, ◌-ℤ◌, ◌*ℤ◌, neg_ℤ, int_lt, int_div, int_rem, ◌==◌, List, [], ◌∷◌, ◌++◌, Option, Some, None, Result, Ok, Err, Bool, true, false, not, if◌then◌else◌, codes, ◌^◌, nat_lt}
+use Rattle.std.specs.Prelude.{ℕ, suc, ℤ, pos, negsuc, ◌+ℤ◌, ◌-ℤ◌, ◌*ℤ◌, neg_ℤ, int_lt, int_div, int_rem, ◌==◌, List, [], ◌++◌, Option, Some, None, Result, Ok, Err, Bool, true, false, not, if◌then◌else◌, ◌^◌, nat_lt}
 use Rattle.std.specs.Ordering.{nat_cmp, int_eq, match_ordering}
 use Rattle.std.specs.Cmp.Lexicographic.{slice_cmp}
-use Rattle.value_core.specs.Value.{Value, nil, boolean, whole_number, text, atom, list, tuple, map_of, slot, Values, no_values, value, Assigns, no_assigns, assign, same}
+use Rattle.value_core.specs.Value.{Value, nil, boolean, whole_number, text, atom, list, tuple, map_of, Values, no_values, value, Assigns, no_assigns, assign, same}
 use Rattle.value_core.specs.Print.{text_of_value}
+use Rattle.value_core.specs.Nesting.{depth_of}
 use Rattle.value_core.specs.declared.raise.Raise.{Raise}
 use Rattle.value_core.specs.declared.raise.Raise.TheVariants.{NoAssign, NoVariable, NoKey, BadArgument, BadBoolean, Range, NotPrintable, Deep}
 use Rattle.ast_core.specs.declared.operators.UnaryOp.{UnaryOp}
@@ -45,25 +46,9 @@ abbrev pub within : ℤ → Res Value
 within (pos n) = if nat_lt n (2 ^ 63) then Ok (whole_number (pos n)) else Err Range
 within (negsuc n) = if nat_lt n (2 ^ 63) then Ok (whole_number (negsuc n)) else Err Range
 
--- how deep lists, tuples and maps nest in a value; an empty one is a level, and a slot is none
-abbrev mutual
-  pub value_depth : Value → ℕ
-  value_depth (list vs) = suc (values_depth vs)
-  value_depth (tuple vs) = suc (values_depth vs)
-  value_depth (map_of as') = suc (assigns_depth as')
-  value_depth _ = 0
-
-  pub values_depth : Values → ℕ
-  values_depth no_values = 0
-  values_depth (value v vs) = max (value_depth v) (values_depth vs)
-
-  pub assigns_depth : Assigns → ℕ
-  assigns_depth no_assigns = 0
-  assigns_depth (assign k v as') = max (value_depth v) (assigns_depth as')
-
 -- a value of at most 100 levels
 abbrev pub shallow : Value → Res Value
-shallow v = if nat_lt 100 (value_depth v) then Err Deep else Ok v
+shallow v = if nat_lt 100 (depth_of v) then Err Deep else Ok v
 
 -- all but nil and false
 abbrev pub is_true : Value → Bool

@@ -3,11 +3,10 @@ use Rattle.std.specs.Prelude.{◌≡◌, ℕ, ◌+◌, ◌<◌, ◌≤◌, List,
 use Rattle.serde_json.specs.Written.{compact_text}
 use Rattle.ast_core.specs.Places.{cut}
 use Rattle.diff_tree.specs.Client.{PageTree, PageDiff, show_tree}
-use Rattle.diff_tree.specs.Spelling.{Pushed}
-use Rattle.diff_tree.specs.Frame.{Frame, FrameBody, rendered, frame_json, client_takes_all}
+use Rattle.diff_tree.specs.Frame.{Frame, FrameBody, rendered, changed, push, frame_json, client_takes_all}
 use Rattle.doc_model.specs.Components.{HeldTree, whole_tree, lean_diff}
-use Rattle.doc_model.specs.Effects.{Action, Waiting, heard, mailed, sent, inbox_limit}
-use Rattle.doc_model.specs.Process.{World, Page, ProcessState, begin_state, page_text, Stepped, handled_front, goes_down, fault_frame, frame_of}
+use Rattle.doc_model.specs.Effects.{Waiting, heard, mailed, inbox_limit}
+use Rattle.doc_model.specs.Process.{World, Page, ProcessState, begin_state, page_text, Stepped, handled_front, goes_down, fault_frame}
 
 -- why a process is put down: a limit, or want of memory
 pub data DownReason : Type 0 where
@@ -171,9 +170,45 @@ PageShown w es (Some p) = (k : ℕ) × ClientShows w p (client_takes_all k None 
 abbrev pub FramesShowPage : World → List Entry → Type 0
 FramesShowPage w es = PageShown w es (replay_journal w es).state.page
 
--- Fourth: the diffs are lean, and the join's tree is whole. Frames are a function of the state before and of the entry
--- (`frames_of_entry` answers `whole_tree` and `lean_diff`), so it is part of the first.
+-- a tree is the whole tree of the page that is shown
+abbrev pub IsWhole : World → Option Page → PageTree → Type 0
+IsWhole w None t = ⊥
+IsWhole w (Some p) t = t ≡ whole_tree (cut (w.template_of p.view)) p.met
+
+-- a diff holds exactly the places whose assigns changed between two pages: it is the lean diff
+abbrev pub IsLean : Option Page → Option Page → PageDiff → Type 0
+IsLean (Some p) (Some q) d = d ≡ lean_diff p.met q.met
+IsLean _ _ d = ⊥
+
+-- what a frame carries, sent between two states
+abbrev pub LeanBody : World → Option Page → Option Page → FrameBody → Type 0
+LeanBody w old new (rendered t es) = IsWhole w new t
+LeanBody w old new (changed d es) = IsLean old new d
+LeanBody w old new (push d es) = IsLean old new d
+LeanBody w old new _ = Unit {0}
+
+-- the same of each frame
+abbrev pub LeanBodies : World → Option Page → Option Page → List Frame → Type 0
+LeanBodies w old new [] = Unit {0}
+LeanBodies w old new (f ∷ fs) = LeanBody w old new f.body × LeanBodies w old new fs
+
+-- the frames that an entry holds spell such frames
+abbrev pub LeanEntry : World → Option Page → Option Page → Entry → Type 0
+LeanEntry w old new e = (fs : List Frame) × (written_frames e ≡ spelled fs) × LeanBodies w old new fs
+
+-- the same of each entry
+abbrev pub LeanFrom : World → Standing → List Entry → Type 0
+LeanFrom w s [] = Unit {0}
+LeanFrom w s (e ∷ es) =
+    LeanEntry w s.state.page (process_step w s e).state.page e × LeanFrom w (after_step (process_step w s e)) es
+
+-- Fourth: the join's tree is the whole tree of what its rendering met, and each diff in the journal's frames holds exactly the places whose assigns changed
+abbrev pub DiffsAreLean : World → List Entry → Type 0
+DiffsAreLean w es = LeanFrom w begin_standing es
+
+-- the four clauses
 pub record SessionHolds (w : World) (es : List Entry) (s : Standing) : Type 0 where
   pub conforms : JournalConforms w es
   pub is_replay : StateIsReplay w es s
   pub shows : FramesShowPage w es
+  pub lean : DiffsAreLean w es

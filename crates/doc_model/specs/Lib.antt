@@ -22,3 +22,4 @@ pub mod Run
 pub mod Laws
 pub mod Process
 pub mod Journal
+pub mod Headline

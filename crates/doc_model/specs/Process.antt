@@ -7,6 +7,7 @@ use Rattle.value_core.specs.Value.{Value, Assigns, no_assigns}
 use Rattle.value_core.specs.declared.raise.Raise.TheVariants.{BadArgument}
 use Rattle.ast_core.specs.Syntax.{Nodes}
 use Rattle.ast_core.specs.Places.{cut}
+use Rattle.diff_tree.specs.Container.{is_none}
 use Rattle.diff_tree.specs.Client.{PageTree, PageDiff}
 use Rattle.diff_tree.specs.Spelling.{Pushed}
 use Rattle.diff_tree.specs.Frame.{Frame, FrameBody, empty, rendered, changed, refusal, no_cids, push, closed, faulted}
@@ -170,11 +171,7 @@ rest_of g inbox = record { generation = g; inbox = inbox; actions = []; pushed =
 
 -- nothing has changed, and nothing was pushed
 abbrev pub no_difference : PageDiff → List Pushed → Bool
-no_difference d [] = is_empty d.root && none d.components
-  where
-    none : {A : Type 0} → List A → Bool
-    none [] = true
-    none (x ∷ xs) = false
+no_difference d [] = is_empty d.root && is_none d.components
 no_difference d (e ∷ es) = false
 
 -- a reply carries the diff, or nothing where it is empty; a push is absent there
@@ -228,12 +225,11 @@ step_component w s p inbox h name v None = unchanged s inbox (reply_to h empty �
 step_component w s p inbox h name v (Some c) =
     after_turn s p inbox (reply_diff h) (component_turn w p c (w.views.handle_event (of_module c.module_name) name v c.assigns) (rest_of s.generation inbox))
 
--- an event, of the view or of a component
-abbrev pub step_event : World → ProcessState → Page → List Waiting → MessageHead → List ℕ → Value → ℕ → Stepped
-step_event w s p inbox h name v n =
-    if n == 0
-    then after_turn s p inbox (reply_diff h) (view_turn w p (w.views.handle_event (of_view p.view) name v p.assigns) (rest_of s.generation inbox))
-    else step_component w s p inbox h name v (component_at n p.components)
+-- an event, of the view or of a component; no component has the number 0
+abbrev pub step_event : World → ProcessState → Page → List Waiting → MessageHead → List ℕ → Value → Option ℕ → Stepped
+step_event w s p inbox h name v None =
+    after_turn s p inbox (reply_diff h) (view_turn w p (w.views.handle_event (of_view p.view) name v p.assigns) (rest_of s.generation inbox))
+step_event w s p inbox h name v (Some n) = step_component w s p inbox h name v (component_at n p.components)
 
 -- a patch to no route or to another view changes nothing
 abbrev pub step_patch : World → ProcessState → Page → List Waiting → MessageHead → Option Route → Stepped

@@ -1,7 +1,8 @@
 //! What the definitions keep: each law is the promise of a function that does nothing.
 
 ghost use Rattle.doc_model.specs.Effects.{Rest};
-ghost use Rattle.doc_model.specs.Laws.{HeldTreeShows, MergeLeanWhole, TakenWhole, WholeTreeShows};
+ghost use Rattle.doc_model.specs.Headline.{AllFramesShow, BundleLinks, HandlersAreHonest, JournalIsLean, JournalShows, LawfulHolds, SessionGoesOn};
+ghost use Rattle.doc_model.specs.Laws.{HeldTreeShows, MergeLeanWhole, StaticsWeave, TakenWhole, UnchangedSendsNothing, WholeTreeShows};
 ghost use Rattle.doc_model.specs.Mark.{MarkIsAtRoot};
 ghost use Rattle.doc_model.specs.Run.{SessionShows, SettledShows};
 ghost use Rattle.doc_model.specs.Session.{FramesShow};
@@ -63,4 +64,55 @@ pub fn session_shows()
 /// The state after its batches were applied shows what the rendering showed.
 pub fn settled_shows()
     ensures { SettledShows }
+{}
+
+/// A bundle is linked where no stream has two places in one of its templates.
+pub fn bundle_links()
+    ensures { BundleLinks }
+{}
+
+/// The handlers of a process write to assigns and batches alone, and change no container.
+pub fn handlers_are_honest()
+    ensures { HandlersAreHonest }
+{}
+
+/// After any entries, lawful or not, the frames since the latest join merge and show the page, where
+/// no stream has two places in one template.
+#[tactic(auto, using(crate::proofs::Journals::journal_shows))]
+pub fn journal_shows()
+    ensures { JournalShows }
+{}
+
+/// From the beginning on no frame is bad for a client, and it holds the page exactly while the process is up.
+pub fn all_frames_show()
+    ensures { AllFramesShow }
+{}
+
+/// The frames of a lawful journal carry whole trees and lean diffs.
+#[tactic(auto, using(crate::proofs::Leans::journal_is_lean))]
+pub fn journal_is_lean()
+    ensures { JournalIsLean }
+{}
+
+/// The four clauses of the headline hold of every lawful journal.
+#[tactic(auto, using(crate::proofs::Leans::lawful_holds))]
+pub fn lawful_holds()
+    ensures { LawfulHolds }
+{}
+
+/// A session that adds one allowed entry with its frames keeps the four clauses.
+pub fn session_goes_on()
+    ensures { SessionGoesOn }
+{}
+
+/// The constant text of nodes, woven with what their places show, is the full rendering.
+#[tactic(auto, using(crate::proofs::Shows::statics_weave))]
+pub fn statics_weave()
+    ensures { StaticsWeave }
+{}
+
+/// Where a rendering meets what the one before it met, the diff holds nothing.
+#[tactic(auto, using(crate::proofs::Idles::unchanged_sends_nothing))]
+pub fn unchanged_sends_nothing()
+    ensures { UnchangedSendsNothing }
 {}

@@ -27,6 +27,12 @@ later_statics (piece.Put n ∷ ns) = first_static ns ∷ later_statics ns
 abbrev pub statics_of : List Node → List (List ℕ)
 statics_of ns = first_static ns ∷ later_statics ns
 
+-- statics and the texts of places by turns
+abbrev pub weave : List (List ℕ) → List (List ℕ) → List ℕ
+weave [] ts = []
+weave (s ∷ ss) [] = s
+weave (s ∷ ss) (t ∷ ts) = s ++ (t ++ weave ss ts)
+
 -- the nodes as the language's syntax has them; where a node stands in its file is not kept yet
 abbrev pub syntax_of : List Node → Nodes
 syntax_of [] = no_nodes

@@ -1,9 +1,16 @@
 //! Laws of the definitions: each is the contract of a function that does nothing.
 ghost use Rattle.slot_compile.specs.Reading.{ReadsAsSpelled};
+ghost use Rattle.slot_compile.specs.Rendering.{StaticsWeave};
 ghost use Rattle.slot_compile.specs.Template.{CutsSyntax};
 
+/// Statics woven with what the places show are the full rendering, and both raise alike.
+#[tactic(auto, using(crate::proofs::Weaves::statics_weave))]
+pub fn statics_weave()
+    ensures { StaticsWeave }
+{}
+
 /// The statics and the places of a template are those of its syntax.
-#[tactic(auto, using(crate::proofs::Syntax::cuts_syntax))]
+#[tactic(auto)]
 pub fn cuts_syntax()
     ensures { CutsSyntax }
 {}

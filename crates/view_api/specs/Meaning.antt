@@ -24,21 +24,33 @@ pub record ViewMeaning : Type 0 where
   -- by module, attributes and assigns
   pub update_component : List ℕ → Assigns → Assigns → Option (List Effect)
 
+-- the same of views that know the modules of LiveComponents by number
+pub record HandlerMeaning : Type 0 where
+  -- by view and params
+  pub mount : ℕ → Value → Option (List Effect)
+  -- by view, params and assigns
+  pub handle_params : ℕ → Value → Assigns → Option (List Effect)
+  -- by owner, event, value and assigns
+  pub handle_event : Owner → List ℕ → Value → Assigns → Option (List Effect)
+  -- by view, message and assigns
+  pub handle_info : ℕ → Value → Assigns → Option (List Effect)
+  -- by module
+  pub mount_component : ℕ → Option (List Effect)
+  -- by module, attributes and assigns
+  pub update_component : ℕ → Assigns → Assigns → Option (List Effect)
+
 -- the handler of an event where modules have numbers; a name without a number has none
 abbrev pub event_of : (Owner → Option (List Effect)) → (List ℕ → Option ℕ) → Handler → Option (List Effect)
 event_of event number (of_view n) = event (View n)
 event_of event number (of_module m) = option_and_then (λ n. event (Component n)) (number m)
 
--- the meaning of views that know the modules of LiveComponents by number: the six meanings, and the number of each name;
--- the handlers of a module without a number raise
-abbrev pub meaning_of : (ℕ → Value → Option (List Effect)) → (ℕ → Value → Assigns → Option (List Effect))
-    → (Owner → List ℕ → Value → Assigns → Option (List Effect)) → (ℕ → Value → Assigns → Option (List Effect))
-    → (ℕ → Option (List Effect)) → (ℕ → Assigns → Assigns → Option (List Effect)) → (List ℕ → Option ℕ) → ViewMeaning
-meaning_of mount params event info mount_component update_component number = record {
-  mount = mount;
-  handle_params = params;
-  handle_event = λ h e v as'. event_of (λ o. event o e v as') number h;
-  handle_info = info;
-  mount_component = λ m. option_and_then mount_component (number m);
-  update_component = λ m new as'. option_and_then (λ n. update_component n new as') (number m);
+-- the meaning of handlers where modules have these numbers; the handlers of a module without a number raise
+abbrev pub meaning_of : HandlerMeaning → (List ℕ → Option ℕ) → ViewMeaning
+meaning_of h number = record {
+  mount = h.mount;
+  handle_params = h.handle_params;
+  handle_event = λ o e v as'. event_of (λ owner. h.handle_event owner e v as') number o;
+  handle_info = h.handle_info;
+  mount_component = λ m. option_and_then h.mount_component (number m);
+  update_component = λ m new as'. option_and_then (λ n. h.update_component n new as') (number m);
 }

@@ -2,9 +2,11 @@
 #![tactic(auto)]
 
 mod effect;
+mod greeting;
 #[cfg(test)]
 mod tests;
 mod views;
 
 pub use effect::{Effect, Effects};
+pub use greeting::Greeting;
 pub use views::{Owner, ViewFault, Views};

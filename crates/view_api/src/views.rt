@@ -37,34 +37,16 @@ impl From<OutOfMemory> for ViewFault {
 /// The handed-in views. Each handler has a pure meaning: its effects, which follow from its arguments alone, or none
 /// where it raises.
 pub trait Views: Send + Sync + Drop {
-    ghost use Rattle.std.specs.Prelude.{ℕ, List, Option};
-    ghost use Rattle.value_core.specs.Value as model;
     ghost use Rattle.value_core.specs.View.{view as value_view, assigns_view};
-    ghost use Rattle.view_api.specs.Effect as asked;
+    ghost use Rattle.view_api.specs.Meaning.{HandlerMeaning};
     ghost use Rattle.view_api.specs.View.{Means};
-    ghost use Rattle.view_api.specs.declared.views.Owner.{Owner};
 
-    // By view and params.
-    ghost mounts: { Self → ℕ → model.Value → Option (List asked.Effect) };
-
-    // By view, params and assigns.
-    ghost takes_params: { Self → ℕ → model.Value → model.Assigns → Option (List asked.Effect) };
-
-    // By owner, event, value and assigns.
-    ghost takes_event: { Self → Owner → List ℕ → model.Value → model.Assigns → Option (List asked.Effect) };
-
-    // By view, message and assigns.
-    ghost takes_info: { Self → ℕ → model.Value → model.Assigns → Option (List asked.Effect) };
-
-    // By module.
-    ghost mounts_component: { Self → ℕ → Option (List asked.Effect) };
-
-    // By module, attributes and assigns.
-    ghost updates_component: { Self → ℕ → model.Assigns → model.Assigns → Option (List asked.Effect) };
+    // What the handlers mean.
+    ghost meaning: { Self → HandlerMeaning };
 
     /// A view begins, with the params of its page.
     fn mount(&self, alloc: Global, view: u32, params: &Value) -> Result<Effects, ViewFault>
-        ensures { Means result (mounts self.now view (value_view params.now)) };
+        ensures { Means result ((meaning self.now).mount view (value_view params.now)) };
 
     /// A view gets the params of its page.
     fn handle_params(
@@ -74,7 +56,7 @@ pub trait Views: Send + Sync + Drop {
         params: &Value,
         assigns: &Assigns,
     ) -> Result<Effects, ViewFault>
-        ensures { Means result (takes_params self.now view (value_view params.now) (assigns_view assigns.now)) };
+        ensures { Means result ((meaning self.now).handle_params view (value_view params.now) (assigns_view assigns.now)) };
 
     /// A view or a component gets an event of its client.
     fn handle_event(
@@ -85,7 +67,7 @@ pub trait Views: Send + Sync + Drop {
         value: &Value,
         assigns: &Assigns,
     ) -> Result<Effects, ViewFault>
-        ensures { Means result (takes_event self.now owner event.now (value_view value.now) (assigns_view assigns.now)) };
+        ensures { Means result ((meaning self.now).handle_event owner event.now (value_view value.now) (assigns_view assigns.now)) };
 
     /// A view gets a message that was published or that its process sent itself.
     fn handle_info(
@@ -95,11 +77,11 @@ pub trait Views: Send + Sync + Drop {
         message: &Value,
         assigns: &Assigns,
     ) -> Result<Effects, ViewFault>
-        ensures { Means result (takes_info self.now view (value_view message.now) (assigns_view assigns.now)) };
+        ensures { Means result ((meaning self.now).handle_info view (value_view message.now) (assigns_view assigns.now)) };
 
     /// A component of the module begins.
     fn mount_component(&self, alloc: Global, module: u32) -> Result<Effects, ViewFault>
-        ensures { Means result (mounts_component self.now «module») };
+        ensures { Means result ((meaning self.now).mount_component «module») };
 
     /// A component of the module gets its attributes, when it begins and whenever they change.
     fn update_component(
@@ -109,5 +91,5 @@ pub trait Views: Send + Sync + Drop {
         attributes: &Assigns,
         assigns: &Assigns,
     ) -> Result<Effects, ViewFault>
-        ensures { Means result (updates_component self.now «module» (assigns_view attributes.now) (assigns_view assigns.now)) };
+        ensures { Means result ((meaning self.now).update_component «module» (assigns_view attributes.now) (assigns_view assigns.now)) };
 }

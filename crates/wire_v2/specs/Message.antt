@@ -23,8 +23,8 @@ pub data Message : Type 0 where
   beat : MessageHead → Message
   join : MessageHead → List ℕ → Message
   leave : MessageHead → Message
-  -- the event's name, its value, and the number of a component (0 for none)
-  event : MessageHead → List ℕ → EventValue → ℕ → Message
+  -- the event's name, its value, and the number of the component that it is for, if it names one
+  event : MessageHead → List ℕ → EventValue → Option ℕ → Message
   patch : MessageHead → List ℕ → Message
   will_destroy : MessageHead → Message
   destroyed : MessageHead → Message
@@ -67,10 +67,10 @@ abbrev pub event_value : List ℕ → Data → Option EventValue
 event_value type payload = if bytes_eq type (codes "form") then form_value (get (codes "value") payload) else value_or_empty (get (codes "value") payload)
 
 -- absent, null, or a whole number of at most 63 bits
-abbrev pub component_number : Option Data → Option ℕ
-component_number None = Some 0
-component_number (Some null) = Some 0
-component_number (Some (number (unsigned n))) = if nat_lt n (2 ^ 63) then Some n else None
+abbrev pub component_number : Option Data → Option (Option ℕ)
+component_number None = Some None
+component_number (Some null) = Some None
+component_number (Some (number (unsigned n))) = if nat_lt n (2 ^ 63) then Some (Some n) else None
 component_number (Some _) = None
 
 -- an event

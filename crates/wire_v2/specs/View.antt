@@ -1,5 +1,4 @@
 -- What the program's messages stand for.
-use Rattle.std.specs.Prelude.{ℕ, Option, Some, None, Bool, true, nat_lt, IsTrue}
 use Rattle.value_core.specs.View.{view}
 use Rattle.wire_v2.specs.Message as model
 use Rattle.wire_v2.specs.declared.head.MessageHead.{MessageHead}
@@ -15,33 +14,11 @@ abbrev pub event_value_view : EventValue → model.EventValue
 event_value_view (event_value.Plain v) = model.plain_value (view v)
 event_value_view (event_value.Form t) = model.form_text t
 
--- no component is the number 0
-abbrev pub number_of : Option ℕ → ℕ
-number_of None = 0
-number_of (Some n) = n
-
 abbrev pub message_view : Message → model.Message
 message_view (message.Beat h) = model.beat (head_view h)
 message_view (message.Join h url) = model.join (head_view h) url
 message_view (message.Leave h) = model.leave (head_view h)
-message_view (message.Event h name v cid) = model.event (head_view h) name (event_value_view v) (number_of cid)
+message_view (message.Event h name v cid) = model.event (head_view h) name (event_value_view v) cid
 message_view (message.Patch h url) = model.patch (head_view h) url
 message_view (message.WillDestroy h) = model.will_destroy (head_view h)
 message_view (message.Destroyed h) = model.destroyed (head_view h)
-
--- components are counted from 1
-abbrev pub is_component : Option ℕ → Bool
-is_component None = true
-is_component (Some n) = nat_lt 0 n
-
--- what an event names is a component, if it names one
-abbrev pub names_component : Message → Bool
-names_component (message.Event h name v cid) = is_component cid
-names_component _ = true
-
-abbrev pub NamesComponent : Message → Type 0
-NamesComponent m = IsTrue (names_component m)
-
-abbrev pub IfReadNames : Option Message → Type 0
-IfReadNames None = Unit {0}
-IfReadNames (Some m) = NamesComponent m

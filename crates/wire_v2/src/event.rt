@@ -1,9 +1,9 @@
 //! What an event carries.
-ghost use Rattle.std.specs.Prelude.{◌≡◌, codes, IfOk, IsTrue, option_map};
+ghost use Rattle.std.specs.Prelude.{◌≡◌, codes, IfOk, option_map};
 ghost use Rattle.serde_json.specs.Find.{get};
 ghost use Rattle.serde_json.specs.View.{view};
 ghost use Rattle.wire_v2.specs.Message.{component_number, event_value, form_value, value_or_empty};
-ghost use Rattle.wire_v2.specs.View.{event_value_view, is_component, number_of};
+ghost use Rattle.wire_v2.specs.View.{event_value_view};
 
 use serde_json::Value as Json;
 use std::alloc::Global;
@@ -62,34 +62,26 @@ fn plain_value(alloc: Global, value: Option<&Json>) -> Result<Option<EventValue>
     }
 }
 
-/// The component of this number; 0 is none.
-pub fn component_of(number: u64) -> Option<u64>
-    ensures number { number_of result ≡ number }
-    ensures is { IsTrue (is_component result) }
-{
-    if number == 0 { None } else { Some(number) }
-}
-
-/// The number of the component that an event names, 0 for none, if `cid` may stand there.
-pub fn component_number(payload: &Json) -> Option<u64>
+/// The number of the component that an event names, if it names one, where `cid` may stand there.
+pub fn component_number(payload: &Json) -> Option<Option<u64>>
     ensures { result ≡ component_number (get (codes "cid") (view payload.now)) }
 {
     match payload.get("cid") {
         Some(cid) => number_at(cid),
-        None => Some(0),
+        None => Some(None),
     }
 }
 
 // Null, or a whole number of at most 63 bits.
-fn number_at(cid: &Json) -> Option<u64>
+fn number_at(cid: &Json) -> Option<Option<u64>>
     ensures { result ≡ component_number (Some (view cid.now)) }
 {
     if cid.is_null() {
-        return Some(0);
+        return Some(None);
     }
     let number = cid.as_u64()?;
     if number <= GREATEST_NUMBER {
-        Some(number)
+        Some(Some(number))
     } else {
         None
     }

@@ -3,9 +3,9 @@ ghost use Rattle.std.specs.Prelude.{◌≡◌, Some, None, codes, IfOk, IsErrOf,
 ghost use Rattle.serde_json.specs.Data.{array};
 ghost use Rattle.serde_json.specs.View.{view, items_view};
 ghost use Rattle.wire_v2.specs.Message.{destroyed, event_message, if_numbers, is_live_topic, join, live_message, message_by_topic, message_from, message_of, message_of_json, patch, text_at, url_of, will_destroy};
-ghost use Rattle.wire_v2.specs.View.{head_view, message_view, NamesComponent, IfReadNames};
+ghost use Rattle.wire_v2.specs.View.{head_view, message_view};
 
-use crate::event::{EventValue, component_number, component_of, event_value};
+use crate::event::{EventValue, component_number, event_value};
 use crate::head::{MessageHead, head_of};
 use crate::payload::{has_numbers, text_at, url_of};
 use serde_json::Value as Json;
@@ -64,8 +64,7 @@ impl From<OutOfMemory> for MessageFault {
 }
 
 fn join(alloc: Global, head: MessageHead, payload: &Json) -> Result<Option<Message>, OutOfMemory>
-    ensures is { IfOk result (λ m. option_map message_view m ≡ option_map (join (head_view head)) (url_of (view payload.now))) }
-    ensures names { IfOk result IfReadNames }
+    ensures { IfOk result (λ m. option_map message_view m ≡ option_map (join (head_view head)) (url_of (view payload.now))) }
 {
     match url_of(payload) {
         Some(url) => Ok(Some(Message::Join {
@@ -77,8 +76,7 @@ fn join(alloc: Global, head: MessageHead, payload: &Json) -> Result<Option<Messa
 }
 
 fn patch(alloc: Global, head: MessageHead, payload: &Json) -> Result<Option<Message>, OutOfMemory>
-    ensures is { IfOk result (λ m. option_map message_view m ≡ option_map (patch (head_view head)) (text_at (codes "url") (view payload.now))) }
-    ensures names { IfOk result IfReadNames }
+    ensures { IfOk result (λ m. option_map message_view m ≡ option_map (patch (head_view head)) (text_at (codes "url") (view payload.now))) }
 {
     match text_at(payload, "url") {
         Some(url) => Ok(Some(Message::Patch {
@@ -95,8 +93,7 @@ fn event_message(
     head: MessageHead,
     payload: &Json,
 ) -> Result<Option<Message>, OutOfMemory>
-    ensures is { IfOk result (λ m. option_map message_view m ≡ event_message (head_view head) (view payload.now)) }
-    ensures names { IfOk result IfReadNames }
+    ensures { IfOk result (λ m. option_map message_view m ≡ event_message (head_view head) (view payload.now)) }
 {
     let Some(kind) = text_at(payload, "type") else {
         return Ok(None);
@@ -104,7 +101,7 @@ fn event_message(
     let Some(event) = text_at(payload, "event") else {
         return Ok(None);
     };
-    let Some(number) = component_number(payload) else {
+    let Some(cid) = component_number(payload) else {
         return Ok(None);
     };
     let Some(value) = event_value(alloc, kind, payload)? else {
@@ -114,13 +111,12 @@ fn event_message(
         head,
         event: Text::copy_of(alloc, event)?,
         value,
-        cid: component_of(number),
+        cid,
     }))
 }
 
 fn will_destroy(head: MessageHead, payload: &Json) -> Option<Message>
-    ensures is { option_map message_view result ≡ if_numbers (will_destroy (head_view head)) (view payload.now) }
-    ensures names { IfReadNames result }
+    ensures { option_map message_view result ≡ if_numbers (will_destroy (head_view head)) (view payload.now) }
 {
     if has_numbers(payload) {
         Some(Message::WillDestroy(head))
@@ -130,8 +126,7 @@ fn will_destroy(head: MessageHead, payload: &Json) -> Option<Message>
 }
 
 fn destroyed(head: MessageHead, payload: &Json) -> Option<Message>
-    ensures is { option_map message_view result ≡ if_numbers (destroyed (head_view head)) (view payload.now) }
-    ensures names { IfReadNames result }
+    ensures { option_map message_view result ≡ if_numbers (destroyed (head_view head)) (view payload.now) }
 {
     if has_numbers(payload) {
         Some(Message::Destroyed(head))
@@ -147,8 +142,7 @@ fn live_message(
     event: &str,
     payload: &Json,
 ) -> Result<Option<Message>, OutOfMemory>
-    ensures is { IfOk result (λ m. option_map message_view m ≡ live_message (head_view head) event.now (view payload.now)) }
-    ensures names { IfOk result IfReadNames }
+    ensures { IfOk result (λ m. option_map message_view m ≡ live_message (head_view head) event.now (view payload.now)) }
 {
     match event {
         "phx_join" => join(alloc, head, payload),
@@ -178,8 +172,7 @@ fn message_by_topic(
     event: &str,
     payload: &Json,
 ) -> Result<Option<Message>, OutOfMemory>
-    ensures is { IfOk result (λ m. option_map message_view m ≡ message_by_topic (head_view head) event.now (view payload.now)) }
-    ensures names { IfOk result IfReadNames }
+    ensures { IfOk result (λ m. option_map message_view m ≡ message_by_topic (head_view head) event.now (view payload.now)) }
 {
     if head.topic.as_str() == "phoenix" && event == "heartbeat" {
         return Ok(Some(Message::Beat(head)));
@@ -198,8 +191,7 @@ fn message_from(
     event: &Json,
     payload: &Json,
 ) -> Result<Option<Message>, OutOfMemory>
-    ensures is { IfOk result (λ m. option_map message_view m ≡ message_from (view join_ref.now) (view reference.now) (view topic.now) (view event.now) (view payload.now)) }
-    ensures names { IfOk result IfReadNames }
+    ensures { IfOk result (λ m. option_map message_view m ≡ message_from (view join_ref.now) (view reference.now) (view topic.now) (view event.now) (view payload.now)) }
 {
     let Some(event) = event.as_str() else {
         return Ok(None);
@@ -215,8 +207,7 @@ fn message_from(
 
 // A message has five items.
 fn message_of_items(alloc: Global, items: &[Json]) -> Result<Option<Message>, OutOfMemory>
-    ensures is { IfOk result (λ m. option_map message_view m ≡ message_of_json (array (items_view items.now))) }
-    ensures names { IfOk result IfReadNames }
+    ensures { IfOk result (λ m. option_map message_view m ≡ message_of_json (array (items_view items.now))) }
 {
     match items {
         [join_ref, reference, topic, event, payload] => {
@@ -227,8 +218,7 @@ fn message_of_items(alloc: Global, items: &[Json]) -> Result<Option<Message>, Ou
 }
 
 fn message_of_json(alloc: Global, json: &Json) -> Result<Option<Message>, OutOfMemory>
-    ensures is { IfOk result (λ m. option_map message_view m ≡ message_of_json (view json.now)) }
-    ensures names { IfOk result IfReadNames }
+    ensures { IfOk result (λ m. option_map message_view m ≡ message_of_json (view json.now)) }
 {
     match json.as_array() {
         Some(items) => message_of_items(alloc, items.as_slice()),
@@ -238,8 +228,7 @@ fn message_of_json(alloc: Global, json: &Json) -> Result<Option<Message>, OutOfM
 
 // The message that bytes spell, if they spell one.
 fn message_of(alloc: Global, text: &[u8]) -> Result<Option<Message>, OutOfMemory>
-    ensures is { IfOk result (λ m. option_map message_view m ≡ message_of text.now) }
-    ensures names { IfOk result IfReadNames }
+    ensures { IfOk result (λ m. option_map message_view m ≡ message_of text.now) }
 {
     match Json::from_slice(alloc, text) {
         Ok(json) => message_of_json(alloc, &json),
@@ -261,7 +250,6 @@ fn message_of(alloc: Global, text: &[u8]) -> Result<Option<Message>, OutOfMemory
 /// exactly where the bytes spell no message.
 pub fn read_message(alloc: Global, text: &[u8]) -> Result<Message, MessageFault>
     ensures ok { IfOk result (λ m. message_of text.now ≡ Some (message_view m)) }
-    ensures names { IfOk result NamesComponent }
     ensures malformed { IsErrOf result MessageFault.Malformed → message_of text.now ≡ None }
 {
     match message_of(alloc, text)? {

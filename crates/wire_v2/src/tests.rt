@@ -216,7 +216,7 @@ fn texts_are_read(rt: HostRuntime) -> Result<(), Fail> {
         ),
         (
             "[\"1\",\"2\",\"lv:A\",\"event\",{\"cid\":0,\"event\":\"inc\",\"type\":\"click\"}]",
-            "event 1 2 lv:A inc {}",
+            "event 1 2 lv:A inc@0 {}",
         ),
         (
             "[\"1\",\"2\",\"lv:A\",\"event\",{\"cid\":-1,\"event\":\"inc\",\"type\":\"click\"}]",

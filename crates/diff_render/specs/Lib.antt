@@ -1,0 +1,4 @@
+pub mod Met
+pub mod Renders
+pub mod Places
+pub mod Shown

@@ -1,0 +1,9 @@
+//! The renderer: the whole tree of a page's first rendering, and the lean diff of each later one.
+#![tactic(auto)]
+
+mod fault;
+mod place;
+mod render;
+
+pub use fault::RenderFault;
+pub use render::{first, next};

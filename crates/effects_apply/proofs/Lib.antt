@@ -1,0 +1,3 @@
+mod Floats
+mod Steps
+mod Orders

@@ -1,0 +1,10 @@
+//! A page that is up: how a join brings it up, and what events, params and messages make of it.
+#![tactic(auto)]
+
+mod app;
+mod fault;
+mod page;
+
+pub use app::{App, Destination};
+pub use fault::PageFault;
+pub use page::LivePage;
