@@ -8,5 +8,5 @@ mod Statics
 pub mod Stored
 pub mod ReadsBack
 mod Written
-mod Taken
+pub mod Taken
 mod Spelled

@@ -1,6 +1,6 @@
 -- The JSON values of frames.
-use Rattle.std.specs.Prelude.{ℕ, List, map, codes}
-use Rattle.serde_json.specs.Data.{Data, string, array, object, no_items, item, no_members}
+use Rattle.std.specs.Prelude.{◌≡◌, ℕ, List, map, codes}
+use Rattle.serde_json.specs.Data.{Data, string, array, object, no_items, item, no_members, put}
 use Rattle.serde_json.specs.View.{view}
 use Rattle.diff_tree.specs.Frame.{reference_json, one_member, reply, fault_json}
 use Rattle.diff_tree.specs.Spelling.{Pushed, with_events, members_of}
@@ -41,6 +41,18 @@ payload_data (body.Pushed d es) = page_data d es
 payload_data body.Closed = object no_members
 payload_data (body.Faulted reason) = fault_json reason
 
+-- a body has this event and this payload
+abbrev pub IsBody : List ℕ → Data → FrameBody → Type 0
+IsBody event payload b = (event_name b ≡ event) × (payload_data b ≡ payload)
+
+-- five items
+abbrev pub framed : Data → Data → Data → Data → Data → Data
+framed j r t event payload = array (item j (item r (item t (item event (item payload no_items)))))
+
 -- an array of join reference, reference, topic, event and payload
 abbrev pub frame_data : Frame → Data
-frame_data f = array (item (reference_json f.join_ref) (item (reference_json f.reference) (item (string f.topic) (item (string (event_name f.body)) (item (payload_data f.body) no_items)))))
+frame_data f = framed (reference_json f.join_ref) (reference_json f.reference) (string f.topic) (string (event_name f.body)) (payload_data f.body)
+
+-- a reply with this status
+abbrev pub reply_under : Data → Data → Data
+reply_under status response = object (put (codes "response") response (put (codes "status") status no_members))

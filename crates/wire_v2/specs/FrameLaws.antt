@@ -1,10 +1,12 @@
 -- The program's frames beside the frames of the definitions.
-use Rattle.std.specs.Prelude.{◌≡◌, [], map}
+use Rattle.std.specs.Prelude.{◌≡◌, ℕ, List, [], map, Option, is_none, Bool, true, ◌&&◌}
 use Rattle.diff_tree.specs.Client.{PageTree, PageDiff}
 use Rattle.diff_tree.specs.Frame as model
 use Rattle.diff_tree.specs.Spelling.{page_tree_json, page_diff_json}
+use Rattle.diff_tree.specs.Grammar.{is_diff}
 use Rattle.diff_tree.specs.Parts.{diff_data}
 use Rattle.wire_v2.specs.FrameData.{pushed_of, frame_data}
+use Rattle.wire_v2.specs.FrameGrammar.{is_whole}
 use Rattle.wire_v2.specs.declared.frame.Frame.{Frame}
 use Rattle.wire_v2.specs.declared.frame.FrameBody.{FrameBody}
 use Rattle.wire_v2.specs.declared.frame.FrameBody.TheVariants as body
@@ -26,3 +28,10 @@ StandsFor f g = (f.join_ref ≡ g.join_reference) × (f.reference ≡ g.referenc
 -- a frame has the JSON value of the frame that it stands for
 abbrev pub FramesAgree : Type 0
 FramesAgree = (f : Frame) (g : model.Frame) → StandsFor f g → frame_data f ≡ model.frame_json g
+
+-- a tree is whole, a diff is one, and a diff that answers no message has no reference
+abbrev pub body_fits : Option (List ℕ) → FrameBody → Bool
+body_fits reference (body.Rendered t es) = is_whole (diff_data t) && is_diff (diff_data t)
+body_fits reference (body.Changed d es) = is_diff (diff_data d)
+body_fits reference (body.Pushed d es) = is_none reference && is_diff (diff_data d)
+body_fits reference _ = true

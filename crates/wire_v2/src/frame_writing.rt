@@ -1,11 +1,13 @@
 //! Frames written as compact JSON (RFC 8259), with the keys of objects in byte order.
-ghost use Rattle.std.specs.Prelude.{◌≡◌, IfOk, OnOk, map};
-ghost use Rattle.serde_json.specs.Data.{string};
+ghost use Rattle.std.specs.Prelude.{◌≡◌, ◌≤◌, true, IfOk, OnOk, map};
+ghost use Rattle.serde_json.specs.Data.{string, depth};
 ghost use Rattle.serde_json.specs.Written.{compact_text};
 ghost use Rattle.serde_json.specs.View.{view, items_view, members_view};
 ghost use Rattle.diff_tree.specs.Frame.{reference_json, one_member, reply, fault_json};
 ghost use Rattle.diff_tree.specs.Spelling.{with_events, members_of, events_json};
 ghost use Rattle.wire_v2.specs.FrameData.{pushed_of, push_data, page_data, event_name, payload_data, frame_data};
+ghost use Rattle.wire_v2.specs.FrameGrammar.{SpellsFrame};
+ghost use Rattle.wire_v2.specs.FrameLaws.{body_fits};
 
 use crate::frame::{Frame, FrameBody};
 use crate::push::Push;
@@ -171,9 +173,12 @@ fn frame_value(alloc: Global, frame: &Frame) -> Result<Value, OutOfMemory>
     Ok(Value::Array(items))
 }
 
-/// The text of a frame: compact JSON (RFC 8259) with the keys of objects in byte order.
+/// The text of a frame: compact JSON (RFC 8259) with the keys of objects in byte order. It spells
+/// the frame for a reader where it nests at most 127 deep, its tree or its diff is one, and a diff
+/// that answers no message has no reference.
 pub fn write_frame(alloc: Global, frame: &Frame) -> Result<Bytes, OutOfMemory>
-    ensures { IfOk result (λ b. b ≡ compact_text (frame_data frame.now)) }
+    ensures text { IfOk result (λ b. b ≡ compact_text (frame_data frame.now)) }
+    ensures spells { IfOk result (λ b. body_fits frame.now.reference frame.now.body ≡ true → depth (frame_data frame.now) ≤ 127 → SpellsFrame b (frame_data frame.now)) }
 {
     let value = frame_value(alloc, frame)?;
     Ok(Bytes::from_vec(value.to_string(alloc)?.into_bytes()))
