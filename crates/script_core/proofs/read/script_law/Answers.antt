@@ -1,5 +1,5 @@
-use Rattle.replay_core.proofs.Laws.{reads_as_spelled, names_bad_line}
-use Rattle.replay_core.proofs.read.script_law.Goals as goal
+use Rattle.script_core.proofs.Laws.{reads_as_spelled, names_bad_line}
+use Rattle.script_core.proofs.read.script_law.Goals as goal
 
 pub returns-clause-script : goal.returns-clause-script
 returns-clause-script c = reads_as_spelled

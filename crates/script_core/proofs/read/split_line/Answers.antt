@@ -1,6 +1,6 @@
 use Rattle.std.proofs.Common.{sym, length, refl}
-use Rattle.replay_core.proofs.Lines.{cut_at_feed, last_line}
-use Rattle.replay_core.proofs.read.split_line.Goals as goal
+use Rattle.script_core.proofs.Lines.{cut_at_feed, last_line}
+use Rattle.script_core.proofs.read.split_line.Goals as goal
 
 pub returns-in-Some-clause-cut : goal.returns-in-Some-clause-cut
 returns-in-Some-clause-cut c =

@@ -1,155 +1,37 @@
 //! The reader of scripts.
-ghost use Rattle.std.specs.Prelude.{◌≡◌, ℕ, ◌≢◌, ◌≤◌, ◌<◌, ◌+◌, ◌∷◌, ◌++◌, ◌==◌, [], IfOk, IfSome, None, Some, Ok, Err, length, position, count_by, option_and_then, nat_lt, codes, true};
+ghost use Rattle.std.specs.Prelude.{◌≡◌, ℕ, ◌≢◌, ◌≤◌, ◌<◌, ◌∷◌, ◌++◌, ◌==◌, [], IfOk, IfSome, None, Some, Ok, Err, length, position, nat_lt, if◌then◌else◌};
 ghost use Rattle.std.specs.Option.{option_copied};
-ghost use Rattle.std.specs.List.{list_all, list_any};
 ghost use Rattle.std.specs.Str.{is_utf8};
-ghost use Rattle.replay_core.specs.Script.{lines, is_letter_or_digit, is_name, declared, joined, is_listed, may_stand, does_nothing, line_behind, most_bytes, SpellsScript, IsBadLine};
-ghost use Rattle.replay_core.specs.Reading.{behind, in_front, name_of, browser_line, join_line, run_line, html_line, frames_line, line_of, admit, with_line, script_from, script_of, ReadsAsSpelled, NamesBadLine};
+ghost use Rattle.script_core.specs.Script.{lines, declared, is_listed, may_stand, does_nothing, line_behind, SpellsScript, IsBadLine};
+ghost use Rattle.script_core.specs.Reading.{line_of, admit, with_line, script_from, script_of, ReadsAsSpelled, NamesBadLine};
 
+use crate::fit::is_fit;
+use crate::shape::shape_of;
 use crate::{Line, Script, ScriptFault};
 use std::alloc::Global;
 use std::marker::Model;
 use std::str;
 use text_core::{Names, OutOfMemory, Seq, Text};
 
-// How many bytes a script has at most.
-const MOST_BYTES: usize = 16_777_216;
+/// How many bytes a script has at most.
+pub const MOST_BYTES: usize = 16_777_216;
 
 // How many browsers a script declares at most.
 const MOST_BROWSERS: usize = 64;
 
-fn is_letter_or_digit(byte: u8) -> bool
-    ensures { result ≡ is_letter_or_digit byte }
-{
-    byte.is_ascii_alphanumeric()
-}
-
-fn all_letters_or_digits(bytes: &[u8]) -> bool
-    ensures { result ≡ list_all is_letter_or_digit bytes.now }
-{
-    bytes.iter().all(|byte| is_letter_or_digit(*byte))
-}
-
-// Whether the bytes are one to eight ASCII letters or digits.
-fn is_name(bytes: &[u8]) -> bool
-    ensures { result ≡ is_name bytes.now }
-{
-    if bytes.is_empty() {
-        return false;
-    }
-    if bytes.len() > 8 {
-        return false;
-    }
-    all_letters_or_digits(bytes)
-}
-
-// What stands behind a beginning.
-fn behind<'a>(line: &'a [u8], word: &[u8]) -> Option<&'a [u8]>
-    ensures { option_copied result ≡ behind word.now line.now }
-{
-    line.strip_prefix(word)
-}
-
-// What stands in front of an ending.
-fn in_front<'a>(line: &'a [u8], ending: &[u8]) -> Option<&'a [u8]>
-    ensures { option_copied result ≡ in_front ending.now line.now }
-{
-    line.strip_suffix(ending)
-}
-
-// The name that the bytes are.
-fn name_of(alloc: Global, bytes: &[u8]) -> Result<Option<Text>, OutOfMemory>
-    ensures { IfOk result (λ name. name ≡ name_of bytes.now) }
-{
-    if !is_name(bytes) {
-        return Ok(None);
-    }
-    let name = String::from_utf8_lossy(alloc, bytes)?;
-    Ok(Some(Text::from_string(name)))
-}
-
-// The name behind a word that begins the line.
-fn name_behind(alloc: Global, line: &[u8], word: &[u8]) -> Result<Option<Text>, OutOfMemory>
-    ensures { IfOk result (λ name. name ≡ option_and_then name_of (behind word.now line.now)) }
-{
-    match behind(line, word) {
-        Some(rest) => name_of(alloc, rest),
-        None => Ok(None),
-    }
-}
-
-fn browser_line(alloc: Global, line: &[u8]) -> Result<Option<Line>, OutOfMemory>
-    ensures { IfOk result (λ x. x ≡ browser_line line.now) }
-{
-    match name_behind(alloc, line, b"browser ")? {
-        Some(name) => Ok(Some(Line::Browser { name })),
-        None => Ok(None),
-    }
-}
-
-fn join_line(alloc: Global, line: &[u8]) -> Result<Option<Line>, OutOfMemory>
-    ensures { IfOk result (λ x. x ≡ join_line line.now) }
-{
-    let Some(rest) = behind(line, b"join ") else {
-        return Ok(None);
-    };
-    let Some(name) = in_front(rest, b" /") else {
-        return Ok(None);
-    };
-    match name_of(alloc, name)? {
-        Some(name) => {
-            let url = Text::copy_of(alloc, "/")?;
-            Ok(Some(Line::Join { name, url }))
-        }
-        None => Ok(None),
-    }
-}
-
-fn run_line(alloc: Global, line: &[u8]) -> Result<Option<Line>, OutOfMemory>
-    ensures { IfOk result (λ x. x ≡ run_line line.now) }
-{
-    match name_behind(alloc, line, b"run ")? {
-        Some(name) => Ok(Some(Line::Run { name })),
-        None => Ok(None),
-    }
-}
-
-fn html_line(alloc: Global, line: &[u8]) -> Result<Option<Line>, OutOfMemory>
-    ensures { IfOk result (λ x. x ≡ html_line line.now) }
-{
-    match name_behind(alloc, line, b"html ")? {
-        Some(name) => Ok(Some(Line::Html { name })),
-        None => Ok(None),
-    }
-}
-
-fn frames_line(alloc: Global, line: &[u8]) -> Result<Option<Line>, OutOfMemory>
-    ensures { IfOk result (λ x. x ≡ frames_line line.now) }
-{
-    match name_behind(alloc, line, b"frames ")? {
-        Some(name) => Ok(Some(Line::Frames { name })),
-        None => Ok(None),
-    }
-}
-
-// The line that does something which these bytes are.
+// The line that does something which a text is.
 #[tactic(auto, unfolding(crate::specs::Reading::line_of))]
-fn line_of(alloc: Global, line: &[u8]) -> Result<Option<Line>, OutOfMemory>
-    ensures { IfOk result (λ x. x ≡ line_of line.now) }
+fn line_of(alloc: Global, text: &str) -> Result<Option<Line>, OutOfMemory>
+    ensures { IfOk result (λ x. x ≡ line_of text.now) }
 {
-    if let Some(read) = browser_line(alloc, line)? {
-        return Ok(Some(read));
+    let Some(line) = shape_of(alloc, text)? else {
+        return Ok(None);
+    };
+    if is_fit(alloc, &line)? {
+        Ok(Some(line))
+    } else {
+        Ok(None)
     }
-    if let Some(read) = join_line(alloc, line)? {
-        return Ok(Some(read));
-    }
-    if let Some(read) = run_line(alloc, line)? {
-        return Ok(Some(read));
-    }
-    if let Some(read) = html_line(alloc, line)? {
-        return Ok(Some(read));
-    }
-    frames_line(alloc, line)
 }
 
 fn does_nothing(line: &[u8]) -> bool
@@ -167,14 +49,11 @@ fn is_listed(name: &Text, names: &[Text]) -> bool
     names.iter().any(|n| n.as_str() == name.as_str())
 }
 
-// Whether the bytes are UTF-8.
-fn is_text(bytes: &[u8]) -> bool
-    ensures { result ≡ is_utf8 bytes.now }
+// The bytes as a text, where they are UTF-8.
+fn text_of(bytes: &[u8]) -> Option<&str>
+    ensures { option_copied result ≡ (if is_utf8 bytes.entry.now then Some bytes.entry.now else None) }
 {
-    match str::from_utf8(bytes) {
-        Ok(_) => true,
-        Err(_) => false,
-    }
+    str::from_utf8(bytes).ok()
 }
 
 // The declared names, with that of a line that declares one.
@@ -188,35 +67,23 @@ fn with_declared(alloc: Global, mut names: Names, line: &Line) -> Result<Names, 
     Ok(names)
 }
 
-// The joined names, with that of a line by which a browser joins.
-fn with_joined(alloc: Global, mut names: Names, line: &Line) -> Result<Names, OutOfMemory>
-    ensures { IfOk result (λ ns. ns ≡ names ++ joined (line.now ∷ [])) }
-{
-    if let Line::Join { name, .. } = line {
-        names.push(name.copy(alloc)?)?;
-        return Ok(names);
-    }
-    Ok(names)
-}
-
 // The script so far, with the names of its browsers.
 #[derive(Debug, Drop)]
 struct Reader {
     declared: Names,
-    joined: Names,
     lines: Script,
 }
 
 impl Model for Reader {
     ghost use Rattle.std.specs.Prelude.{List, ◌≡◌};
-    ghost use Rattle.replay_core.specs.declared.script.Line.{Line};
-    ghost use Rattle.replay_core.specs.Script as specs;
+    ghost use Rattle.script_core.specs.declared.script.Line.{Line};
+    ghost use Rattle.script_core.specs.Script as specs;
 
     ghost Value = { List Line };
 
     ghost view = { λ r. r.lines };
 
-    ghost invariant = { λ r. (r.declared ≡ specs.declared r.lines) × (r.joined ≡ specs.joined r.lines) };
+    ghost invariant = { λ r. r.declared ≡ specs.declared r.lines };
 }
 
 impl Reader {
@@ -225,7 +92,6 @@ impl Reader {
     {
         Reader {
             declared: Seq::new(alloc),
-            joined: Seq::new(alloc),
             lines: Seq::new(alloc),
         }
     }
@@ -241,12 +107,6 @@ impl Reader {
         ensures { result ≡ is_listed name.now (declared self.now) }
     {
         is_listed(name, self.declared.as_slice())
-    }
-
-    fn has_joined(&self, name: &Text) -> bool
-        ensures { result ≡ is_listed name.now (joined self.now) }
-    {
-        is_listed(name, self.joined.as_slice())
     }
 
     fn has_room(&self) -> bool
@@ -267,13 +127,9 @@ impl Reader {
                     self.has_room()
                 }
             }
-            Line::Join { name, .. } => {
-                if self.is_declared(name) {
-                    !self.has_joined(name)
-                } else {
-                    false
-                }
-            }
+            Line::Join { name, .. } => self.is_declared(name),
+            Line::Event { name, .. } => self.is_declared(name),
+            Line::Step { name } => self.is_declared(name),
             Line::Run { name } => self.is_declared(name),
             Line::Html { name } => self.is_declared(name),
             Line::Frames { name } => self.is_declared(name),
@@ -286,17 +142,11 @@ impl Reader {
     {
         let Reader {
             declared,
-            joined,
             mut lines,
         } = self;
         let declared = with_declared(alloc, declared, &line)?;
-        let joined = with_joined(alloc, joined, &line)?;
         lines.push(line)?;
-        Ok(Reader {
-            declared,
-            joined,
-            lines,
-        })
+        Ok(Reader { declared, lines })
     }
 
     // The reader behind this line, if the line may stand there.
@@ -313,13 +163,13 @@ impl Reader {
     fn with_line(self, alloc: Global, line: &[u8]) -> Result<Option<Reader>, OutOfMemory>
         ensures { IfOk result (λ r. r ≡ with_line self line.now) }
     {
-        if !is_text(line) {
+        let Some(text) = text_of(line) else {
             return Ok(None);
-        }
+        };
         if does_nothing(line) {
             return Ok(Some(self));
         }
-        match line_of(alloc, line)? {
+        match line_of(alloc, text)? {
             Some(read) => self.admit(alloc, read),
             None => Ok(None),
         }
@@ -392,13 +242,13 @@ fn read_text(alloc: Global, text: &[u8]) -> Result<Script, ScriptFault>
     read_lines(alloc, text)
 }
 
-/// Reads a script: lines of words with one space between them, at most 16,777,216 bytes.
+/// Reads a script: lines of words with one space between them, at most `MOST_BYTES` bytes.
 ///
-/// An empty line and a line that begins with `#` do nothing. The others are `browser B`,
-/// `join B /`, `run B`, `html B` and `frames B`, where B is one to eight ASCII letters or digits.
-/// At most 64 browsers are declared, each once and before its use, and each joins at most once.
+/// An empty line and a line that begins with `#` do nothing. The others are those of `Line`.
+/// At most 64 browsers are declared, each once and before its use.
+///
 /// `BadLine` names the line of the first byte past the limit, and else the first line that cannot
-/// be read.
+/// be read. Where memory is wanting there is no script and no line.
 pub fn read_script(alloc: Global, text: &[u8]) -> Result<Script, ScriptFault>
     ensures read { IfOk result (λ s. SpellsScript text.entry.now s) }
     ensures bad_line { (n : ℕ) → result ≡ Err (ScriptFault.BadLine n) → IsBadLine text.entry.now n }

@@ -1,7 +1,7 @@
 use Rattle.std.proofs.Common.{◌≡◌, ◌≤◌, ◌+◌, [], length}
-use Rattle.replay_core.specs.Script.{lines}
-use Rattle.replay_core.specs.Reading.{script_from}
-use Rattle.replay_core.proofs.read.read_lines.Given as goal
+use Rattle.script_core.specs.Script.{lines}
+use Rattle.script_core.specs.Reading.{script_from}
+use Rattle.script_core.proofs.read.read_lines.Given as goal
 
 abbrev pub invariant-loop-rest : goal.invariant-loop-rest
 invariant-loop-rest l = record {

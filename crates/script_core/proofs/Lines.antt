@@ -1,15 +1,14 @@
--- Facts on cut lines, names and single steps of the reader.
-use Rattle.std.proofs.Common.{arith, ◌≡◌, ◌≢◌, ◌≤◌, ◌<◌, ℕ, ◌+◌, zero, suc, List, [], ◌∷◌, ◌++◌, length, take, drop, get_or, Bool, true, false, cond, ◌&&◌, ◌==◌, nat_lt, Option, Some, None, position, refl, ap, sym, ◌∙◌, Err, lit<}
-use Rattle.std.specs.List.{list_all, position_or_len}
-use Rattle.std.specs.Str.{IsUtf8, IsAscii, is_utf8}
-use Rattle.std.proofs.lemmas.Str.{IsUtf8-from_ascii, IsUtf8-from_is_utf8}
-use Rattle.std.proofs.lemmas.Bool.Decides.{nat_tests}
+-- Facts on cut lines and single steps of the reader.
+use Rattle.std.proofs.Common.{arith, ◌≡◌, ◌≢◌, ◌≤◌, ◌<◌, ℕ, ◌+◌, suc, List, [], ◌∷◌, ◌++◌, length, take, drop, Bool, true, false, cond, ◌&&◌, ◌==◌, nat_lt, Option, Some, None, position, refl, ap, sym, ◌∙◌, Err}
+use Rattle.std.specs.List.{position_or_len}
+use Rattle.std.specs.Str.{IsUtf8, is_utf8}
+use Rattle.std.proofs.lemmas.Str.{IsUtf8-from_is_utf8, is_utf8-from_IsUtf8}
 use Rattle.std.proofs.Math.Seq.{drop-length}
 use borrow.Author.Tests.{ltb-true, ltb-false}
-use Rattle.replay_core.specs.declared.script.Line.{Line}
-use Rattle.replay_core.specs.declared.script.Line.TheVariants as line
-use Rattle.replay_core.specs.Script.{lines, grow, is_letter_or_digit, is_name, declared, joined}
-use Rattle.replay_core.specs.Reading.{name_of, with_line, or_bad, script_from}
+use Rattle.script_core.specs.declared.script.Line.{Line}
+use Rattle.script_core.specs.declared.script.Line.TheVariants as line
+use Rattle.script_core.specs.Script.{lines, grow, declared}
+use Rattle.script_core.specs.Reading.{with_line, or_bad, script_from}
 
 -- how many bytes stand before the first line feed
 abbrev feed_len : List ℕ → ℕ
@@ -79,28 +78,10 @@ last_line bs rest n e some at behind =
     let empty : rest ≡ [] = behind ∙ ap (λ k. drop k bs) at ∙ drop-length bs in
     one_line bs some past ∙ sym (ap (λ r. bs ∷ lines r) empty)
 
-letter_small : (b : ℕ) → is_letter_or_digit b ≡ true → b < 128
-letter_small b h = grind (arith, nat_tests)
-
 pub head_true : (a b : Bool) → (a && b) ≡ true → (a ≡ true) × (b ≡ true)
 head_true true true e = (refl, refl)
 head_true true false e = cc
 head_true false b e = cc
-
-letters_ascii : (l : List ℕ) → list_all is_letter_or_digit l ≡ true → IsAscii l
-letters_ascii [] h = λ i. lit< tt
-letters_ascii (b ∷ bs) h = let both = head_true (is_letter_or_digit b) (list_all is_letter_or_digit bs) h in λ i. at_place b bs (letter_small b both.0) (letters_ascii bs both.1) i
-  where
-    at_place : (b : ℕ) (bs : List ℕ) → b < 128 → IsAscii bs → (i : ℕ) → get_or (b ∷ bs) i 0 < 128
-    at_place b bs h hs zero = h
-    at_place b bs h hs (suc i) = hs i
-
--- a name is UTF-8
-pub name_utf8 : (l : List ℕ) → is_name l ≡ true → IsUtf8 l
-name_utf8 l h = IsUtf8-from_ascii l (letters_ascii l (head_true _ _ h).1)
-
-pub name_yes : (l t : List ℕ) → is_name l ≡ true → t ≡ l → Some t ≡ name_of l
-name_yes l t h e = ap Some e ∙ sym (ap (λ b. cond b (Some l) None) h)
 
 not_true : (b : Bool) → (b ≡ true → ⊥) → b ≡ false
 not_true true h = absurd (h refl)
@@ -113,17 +94,11 @@ pub declared-append : (ls ms : List Line) → declared (ls ++ ms) ≡ declared l
 declared-append [] ms = refl
 declared-append (line.Browser n ∷ ls) ms = ap (λ ns. n ∷ ns) (declared-append ls ms)
 declared-append (line.Join n u ∷ ls) ms = declared-append ls ms
+declared-append (line.Event n k e v ∷ ls) ms = declared-append ls ms
+declared-append (line.Step n ∷ ls) ms = declared-append ls ms
 declared-append (line.Run n ∷ ls) ms = declared-append ls ms
 declared-append (line.Html n ∷ ls) ms = declared-append ls ms
 declared-append (line.Frames n ∷ ls) ms = declared-append ls ms
-
-pub joined-append : (ls ms : List Line) → joined (ls ++ ms) ≡ joined ls ++ joined ms
-joined-append [] ms = refl
-joined-append (line.Browser n ∷ ls) ms = joined-append ls ms
-joined-append (line.Join n u ∷ ls) ms = ap (λ ns. n ∷ ns) (joined-append ls ms)
-joined-append (line.Run n ∷ ls) ms = joined-append ls ms
-joined-append (line.Html n ∷ ls) ms = joined-append ls ms
-joined-append (line.Frames n ∷ ls) ms = joined-append ls ms
 
 -- one line of the reader
 pub goes_on : (before : List Line) (n : ℕ) (l : List ℕ) (ls : List (List ℕ)) (after : List Line) → with_line before l ≡ Some after → script_from before n (l ∷ ls) ≡ script_from after (n + 1) ls

@@ -1,17 +1,15 @@
 -- The function that reads, and the relation that says what is read, agree.
-use Rattle.std.proofs.Common.{arith, ◌≡◌, ◌≤◌, ◌<◌, inl, inr, ℕ, ◌+◌, ◌-◌, List, [], ◌∷◌, ◌++◌, length, take, drop, codes, Bool, true, false, cond, ◌&&◌, nat_le, Option, Some, None, option_map, option_and_then, refl, ap, sym, suc, subst, ◌∙◌, Result, Ok, Err, IfOk, length-append}
-use Rattle.std.specs.Str.{is_utf8, bytes_eq}
+use Rattle.std.proofs.Common.{arith, ◌≡◌, ◌≤◌, ◌<◌, inl, inr, ℕ, ◌+◌, List, [], ◌∷◌, ◌++◌, length, take, Bool, true, false, cond, nat_le, Option, Some, None, option_and_then, refl, ap, sym, suc, subst, ◌∙◌, Result, Ok, Err, IfOk}
+use Rattle.std.specs.Str.{is_utf8}
 use Rattle.std.proofs.lemmas.Str.{IsUtf8-from_is_utf8, is_utf8-from_IsUtf8}
-use Rattle.std.proofs.lemmas.Slice.Eq.{bytes_eq-Decides}
-use Rattle.std.proofs.lemmas.List.{take-append-drop}
-use Rattle.std.proofs.Math.Seq.{drop-append_seam, take-append_seam}
 use Rattle.std.proofs.lemmas.Bool.{leb-true, leb-false}
-use Rattle.replay_core.specs.declared.script.Line.{Line}
-use Rattle.replay_core.specs.declared.script.ScriptFault.{ScriptFault}
-use Rattle.replay_core.specs.declared.script.Line.TheVariants as line
-use Rattle.replay_core.specs.Script.{lines, is_name, line_text, is_fit, may_stand, does_nothing, Adds, SpellsLines, SpellsScript, IsFirstBad, IsBadLine, most_bytes, line_behind}
-use Rattle.replay_core.specs.Reading.{behind, in_front, name_of, browser_line, join_line, run_line, html_line, frames_line, or_else, line_of, admit, with_line, or_bad, script_from, script_of, ReadsAsSpelled, NamesBadLine}
-use Rattle.replay_core.proofs.Lines.{head_true, goes_on, stops}
+use Rattle.script_core.specs.declared.script.Line.{Line}
+use Rattle.script_core.specs.declared.script.ScriptFault.{ScriptFault}
+use Rattle.script_core.specs.declared.script.Line.TheVariants as line
+use Rattle.script_core.specs.Script.{lines, line_text, is_fit, may_stand, does_nothing, Adds, SpellsLines, SpellsScript, IsFirstBad, IsBadLine, most_bytes, line_behind}
+use Rattle.script_core.specs.Reading.{shape_of, line_of, admit, with_line, or_bad, script_from, script_of, ReadsAsSpelled, NamesBadLine}
+use Rattle.script_core.proofs.Lines.{goes_on, stops}
+use Rattle.script_core.proofs.Shapes.{shape_yes, shape_back}
 
 some_in : {X : Type 0} (b : Bool) (v r : X) → cond b (Some v) None ≡ Some r → (b ≡ true) × (v ≡ r)
 some_in true v r e = (refl, cc)
@@ -21,105 +19,27 @@ some_in false v r e = cc
 abbrev IsLine : List ℕ → Line → Type 0
 IsLine l x = (l ≡ line_text x) × (is_fit x ≡ true)
 
-behind_yes : (word l r : List ℕ) → behind word l ≡ Some r → l ≡ word ++ r
-behind_yes word l r e =
-    let at = some_in (bytes_eq (take (length word) l) word) (drop (length word) l) r e in
-    let front : take (length word) l ≡ word = (bytes_eq-Decides (take (length word) l) word).0 at.0 in
-    sym (take-append-drop (length word) l) ∙ ap (λ f. f ++ drop (length word) l) front ∙ ap (λ d. word ++ d) at.1
-
-in_front_yes : (ending l r : List ℕ) → in_front ending l ≡ Some r → l ≡ r ++ ending
-in_front_yes ending l r e =
-    let k = length l - length ending in
-    let at = some_in (bytes_eq (drop k l) ending) (take k l) r e in
-    let back : drop k l ≡ ending = (bytes_eq-Decides (drop k l) ending).0 at.0 in
-    sym (take-append-drop k l) ∙ ap (λ d. take k l ++ d) back ∙ ap (λ f. f ++ ending) at.1
-
-in_front_at : (ending n : List ℕ) → in_front ending (n ++ ending) ≡ Some n
-in_front_at ending n =
-    let all = n ++ ending in
-    let at : length all - length ending ≡ length n = omega (arith, length-append n ending) in
-    let d : drop (length n) all ≡ ending = drop-append_seam n ending in
-    let t : take (length n) all ≡ n = take-append_seam n ending in
-    let same : bytes_eq ending ending ≡ true = (bytes_eq-Decides ending ending).1 refl in
-    ap (λ k. cond (bytes_eq (drop k all) ending) (Some (take k all)) None) at
-    ∙ ap (λ y. cond (bytes_eq y ending) (Some (take (length n) all)) None) d
-    ∙ ap (λ b. cond b (Some (take (length n) all)) None) same
-    ∙ ap Some t
-
--- a line of one word
-
-by_name : (mk : List ℕ → Line) (l x : _) (r : List ℕ) (b : Bool) → is_name r ≡ b → l ≡ line_text (mk r) → is_fit (mk r) ≡ is_name r → option_map mk (cond b (Some r) None) ≡ Some x → IsLine l x
-by_name mk l x r true h t f e = let same : mk r ≡ x = cc in subst (λ y. IsLine l y) same (t, f ∙ h)
-by_name mk l x r false h t f e = cc
-
-by_word : (mk : List ℕ → Line) (word l : List ℕ) (x : Line) (o : Option (List ℕ)) → behind word l ≡ o → ((r : List ℕ) → word ++ r ≡ line_text (mk r)) → ((r : List ℕ) → is_fit (mk r) ≡ is_name r) → option_map mk (option_and_then name_of o) ≡ Some x → IsLine l x
-by_word mk word l x None b t f e = cc
-by_word mk word l x (Some r) b t f e = by_name mk l x r (is_name r) refl (behind_yes word l r b ∙ t r) (f r) e
-
-by_end : (l : List ℕ) (x : Line) (r : List ℕ) (o : Option (List ℕ)) → in_front (codes " /") r ≡ o → l ≡ codes "join " ++ r → option_map (λ name. line.Join name (codes "/")) (option_and_then name_of o) ≡ Some x → IsLine l x
-by_end l x r None b h e = cc
-by_end l x r (Some n) b h e =
-    by_name (λ name. line.Join name (codes "/")) l x n (is_name n) refl (h ∙ ap (λ y. codes "join " ++ y) (in_front_yes (codes " /") r n b)) (fit n (is_name n) refl) e
-  where
-    fit : (n : List ℕ) (b : Bool) → is_name n ≡ b → (is_name n && true) ≡ is_name n
-    fit n true h = ap (λ c. c && true) h ∙ sym h
-    fit n false h = ap (λ c. c && true) h ∙ sym h
-
-by_join : (l : List ℕ) (x : Line) (o : Option (List ℕ)) → behind (codes "join ") l ≡ o → option_map (λ name. line.Join name (codes "/")) (option_and_then name_of (option_and_then (in_front (codes " /")) o)) ≡ Some x → IsLine l x
-by_join l x None b e = cc
-by_join l x (Some r) b e = by_end l x r (in_front (codes " /") r) refl (behind_yes (codes "join ") l r b) e
-
-either : (l : List ℕ) (x : Line) (o rest : Option Line) → (o ≡ Some x → IsLine l x) → (rest ≡ Some x → IsLine l x) → or_else o rest ≡ Some x → IsLine l x
-either l x None rest f g e = g e
-either l x (Some y) rest f g e = f e
+fit_by : (l : List ℕ) (x : Line) (o : Option Line) → shape_of l ≡ o → option_and_then (λ y. cond (is_fit y) (Some y) None) o ≡ Some x → IsLine l x
+fit_by l x None h e = cc
+fit_by l x (Some y) h e =
+    let at = some_in (is_fit y) y x e in
+    subst (λ z. IsLine l z) at.1 (shape_yes l y h, at.0)
 
 line_yes : (l : List ℕ) (x : Line) → line_of l ≡ Some x → IsLine l x
 unfolding line_of
-line_yes l x =
-    either l x (browser_line l) (or_else (join_line l) (or_else (run_line l) (or_else (html_line l) (frames_line l))))
-    (by_word (λ n. line.Browser n) (codes "browser ") l x (behind (codes "browser ") l) refl (λ r. refl) (λ r. refl))
-    (either l x (join_line l) (or_else (run_line l) (or_else (html_line l) (frames_line l)))
-    (by_join l x (behind (codes "join ") l) refl)
-    (either l x (run_line l) (or_else (html_line l) (frames_line l))
-    (by_word (λ n. line.Run n) (codes "run ") l x (behind (codes "run ") l) refl (λ r. refl) (λ r. refl))
-    (either l x (html_line l) (frames_line l)
-    (by_word (λ n. line.Html n) (codes "html ") l x (behind (codes "html ") l) refl (λ r. refl) (λ r. refl))
-    (by_word (λ n. line.Frames n) (codes "frames ") l x (behind (codes "frames ") l) refl (λ r. refl) (λ r. refl)))))
-
--- the text of a line that fits is read as that line
-
-named : (mk : List ℕ → Line) (n : List ℕ) (b : Bool) (rest : Option Line) → b ≡ true → or_else (option_map mk (cond b (Some n) None)) rest ≡ Some (mk n)
-named mk n b rest h = ap (λ c. or_else (option_map mk (cond c (Some n) None)) rest) h
-
-join_back : (n : List ℕ) → is_name n ≡ true → line_of (codes "join " ++ (n ++ codes " /")) ≡ Some (line.Join n (codes "/"))
-unfolding line_of
-join_back n h =
-    let mk : List ℕ → Line = λ name. line.Join name (codes "/") in
-    let l = codes "join " ++ (n ++ codes " /") in
-    let rest = or_else (run_line l) (or_else (html_line l) (frames_line l)) in
-    ap (λ o. or_else (option_map mk (option_and_then name_of o)) rest) (in_front_at (codes " /") n)
-    ∙ named mk n (is_name n) rest h
+line_yes l x = fit_by l x (shape_of l) refl
 
 line_back : (x : Line) → is_fit x ≡ true → line_of (line_text x) ≡ Some x
 unfolding line_of
-line_back (line.Browser n) h =
-    let l = codes "browser " ++ n in
-    named (λ name. line.Browser name) n (is_name n) (or_else (join_line l) (or_else (run_line l) (or_else (html_line l) (frames_line l)))) h
-line_back (line.Join n u) h =
-    let both = head_true (is_name n) (bytes_eq u (codes "/")) h in
-    let root : codes "/" ≡ u = sym ((bytes_eq-Decides u (codes "/")).0 both.1) in
-    subst (λ v. line_of (codes "join " ++ (n ++ (codes " " ++ v))) ≡ Some (line.Join n v)) root (join_back n both.0)
-line_back (line.Run n) h =
-    let l = codes "run " ++ n in
-    named (λ name. line.Run name) n (is_name n) (or_else (html_line l) (frames_line l)) h
-line_back (line.Html n) h =
-    let l = codes "html " ++ n in
-    named (λ name. line.Html name) n (is_name n) (frames_line l) h
-line_back (line.Frames n) h = ap (λ b. option_map (λ name. line.Frames name) (cond b (Some n) None)) h
+line_back x h =
+    ap (λ (o : Option Line). option_and_then (λ y. cond (is_fit y) (Some y) None) o) (shape_back x h)
+    ∙ ap (λ b. cond b (Some x) None) h
 
 does_something : (x : Line) → does_nothing (line_text x) ≡ false
 does_something (line.Browser n) = refl
 does_something (line.Join n u) = refl
+does_something (line.Event n k e v) = refl
+does_something (line.Step n) = refl
 does_something (line.Run n) = refl
 does_something (line.Html n) = refl
 does_something (line.Frames n) = refl

@@ -1,5 +1,5 @@
-use Rattle.replay_core.proofs.Laws.{read_spelled, bad_line}
-use Rattle.replay_core.proofs.read.read_script.Goals as goal
+use Rattle.script_core.proofs.Laws.{read_spelled, bad_line}
+use Rattle.script_core.proofs.read.read_script.Goals as goal
 
 pub returns-clause-read : goal.returns-clause-read
 returns-clause-read c = read_spelled c.args.text.now c.read_text.result c.read_text.ensures.read
