@@ -1,6 +1,8 @@
 -- A text has the shape of a line exactly where it is the line's text.
 use Rattle.std.proofs.Common.{arith, ◌≡◌, ◌≢◌, ◌<◌, ◌×◌, ℕ, zero, suc, ◌+◌, List, [], ◌∷◌, ◌++◌, length, get_or, codes, Bool, true, false, cond, not, ◌&&◌, ◌==◌, Option, Some, None, option_map, option_and_then, refl, ap, sym, subst, ◌∙◌}
+use denote.Ref.{Bor}
 use Rattle.std.specs.List.{list_all}
+use Rattle.std.specs.Option.{MatchOption}
 use Rattle.std.specs.Str.{bytes_eq}
 use Rattle.std.proofs.lemmas.Bool.Decides.{nat_tests}
 use Rattle.std.proofs.lemmas.Slice.Eq.{bytes_eq-Decides}
@@ -170,3 +172,8 @@ shape_back (line.Step n) h = refl
 shape_back (line.Run n) h = refl
 shape_back (line.Html n) h = refl
 shape_back (line.Frames n) h = refl
+
+-- what `split_once` answers is the cut
+pub cut_is : (l : List ℕ) (r : Option (Bor (List ℕ) × Bor (List ℕ))) → MatchOption r ((i : ℕ) → i < length l → get_or l i 0 ≢ 32) (λ x. (l ≡ x.0.now ++ (32 ∷ x.1.now)) × ((i : ℕ) → i < length x.0.now → get_or x.0.now i 0 ≢ 32)) → option_map (λ p. (p.0.now, p.1.now)) r ≡ cut l
+cut_is l None h = sym (cut_none l (lacks_by_places l h))
+cut_is l (Some x) h = sym (ap cut h.0 ∙ cut_at x.0.now x.1.now (lacks_by_places x.0.now h.1))

@@ -15,7 +15,7 @@ fn outcome(alloc: Global, text: &[u8]) -> Result<Result<usize, u32>, OutOfMemory
 #[test]
 fn table(rt: HostRuntime) -> Result<(), Fail> {
     let alloc = rt.alloc();
-    let rows: [(&[u8], Result<usize, u32>); 44] = [
+    let rows: [(&[u8], Result<usize, u32>); 74] = [
         (b"", Ok(0)),
         (b"\n", Ok(0)),
         (b"\n\n\n", Ok(0)),
@@ -53,7 +53,37 @@ fn table(rt: HostRuntime) -> Result<(), Fail> {
         (b"browser A\njoin A /x\n", Err(2)),
         (b"browser A\njoin A  /\n", Err(2)),
         (b"browser A\njoin A / \n", Err(2)),
-        (b"browser A\njoin A /\njoin A /\n", Err(3)),
+        (b"browser A\njoin A /\njoin A /\n", Ok(3)),
+        (b"join A /\nbrowser A\n", Err(1)),
+        (b"browser A\nstep A\nstep A\nrun A\n", Ok(4)),
+        (b"browser A\nstep\n", Err(2)),
+        (b"browser A\nstep B\n", Err(2)),
+        (b"browser A\nstep A 2\n", Err(2)),
+        (b"browser A\nevent A click inc {}\n", Ok(2)),
+        (b"browser A\nevent A click inc {\"a\": [1, -2],  \"b\": \"x y\"}\n", Ok(2)),
+        (b"browser A\nevent A click inc  null \n", Ok(2)),
+        (b"browser A\nevent A \xc3\xa4 f\xc3\xb6rm \"\xc3\xbc\"", Ok(2)),
+        (b"browser A\nevent A click form 1\n", Ok(2)),
+        (b"browser A\nevent A form x {}\n", Err(2)),
+        (b"browser A\nevent A forms x {}\n", Ok(2)),
+        (b"browser A\nevent B click inc {}\n", Err(2)),
+        (b"event A click inc {}\n", Err(1)),
+        (b"browser A\nevent A click inc {\n", Err(2)),
+        (b"browser A\nevent A click inc {} {}\n", Err(2)),
+        (b"browser A\nevent A click inc x\n", Err(2)),
+        (b"browser A\nevent A click inc \n", Err(2)),
+        (b"browser A\nevent A click inc\n", Err(2)),
+        (b"browser A\nevent A click {}\n", Err(2)),
+        (b"browser A\nevent A  inc {}\n", Err(2)),
+        (b"browser A\nevent A click  {}\n", Err(2)),
+        (b"browser A\nevent  A click inc {}\n", Err(2)),
+        (b"browser A\nevent A_B click inc {}\n", Err(2)),
+        (b"browser A\nevent A click inc 1.5\n", Err(2)),
+        (b"browser A\nevent A click inc [1e2]\n", Err(2)),
+        (b"browser A\nevent A click inc -0\n", Err(2)),
+        (b"browser A\nevent A click inc 9223372036854775807\n", Ok(2)),
+        (b"browser A\nevent A click inc 9223372036854775808\n", Err(2)),
+        (b"browser A\nevent A click inc -9223372036854775808\n", Ok(2)),
         (b"browser A\nrun A /\n", Err(2)),
         (b"browser A\nclick A\n", Err(2)),
         (b"# \xff\nbrowser A\n", Err(1)),
@@ -72,16 +102,43 @@ fn lines_are_kept(rt: HostRuntime) -> Result<(), Fail> {
     let alloc = rt.alloc();
     let script = read_script(
         alloc,
-        b"# two browsers\nbrowser A\nbrowser B2\njoin B2 /\n\nframes A",
+        b"# two browsers\nbrowser A\nbrowser B2\njoin B2 /\n\nevent A click inc {\"by\":  2}\nstep B2",
     )?;
     let lines = script.as_slice();
-    assert_eq!(rt; lines.len(), 4);
+    assert_eq!(rt; lines.len(), 5);
     assert!(rt; matches!(&lines[0], Line::Browser { name } if name.as_str() == "A"));
     assert!(rt; matches!(&lines[1], Line::Browser { name } if name.as_str() == "B2"));
     assert!(rt;
         matches!(&lines[2], Line::Join { name, url } if name.as_str() == "B2" && url.as_str() == "/")
     );
-    assert!(rt; matches!(&lines[3], Line::Frames { name } if name.as_str() == "A"));
+    assert!(rt;
+        matches!(&lines[3], Line::Event { name, kind, .. } if name.as_str() == "A" && kind.as_str() == "click")
+    );
+    assert!(rt;
+        matches!(&lines[3], Line::Event { event, value, .. } if event.as_str() == "inc" && value.as_str() == "{\"by\":  2}")
+    );
+    assert!(rt; matches!(&lines[4], Line::Step { name } if name.as_str() == "B2"));
+    Ok(())
+}
+
+// A browser, and an event whose value is lists in lists.
+fn nested(alloc: Global, levels: u32) -> Result<Bytes, OutOfMemory> {
+    let mut text = Bytes::copy_of(alloc, b"browser A\nevent A click inc ")?;
+    for _ in 0..levels {
+        text.push_slice(b"[")?;
+    }
+    for _ in 0..levels {
+        text.push_slice(b"]")?;
+    }
+    Ok(text)
+}
+
+#[test]
+fn values_nest_at_most_100_deep(rt: HostRuntime) -> Result<(), Fail> {
+    let alloc = rt.alloc();
+    for (levels, want) in [(100, Ok(2)), (101, Err(2)), (128, Err(2))] {
+        assert_eq!(rt; outcome(alloc, nested(alloc, levels)?.as_slice())?, want);
+    }
     Ok(())
 }
 
