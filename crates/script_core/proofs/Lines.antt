@@ -87,8 +87,12 @@ not_true : (b : Bool) → (b ≡ true → ⊥) → b ≡ false
 not_true true h = absurd (h refl)
 not_true false h = refl
 
-pub not_utf8 : (l : List ℕ) → (IsUtf8 l → ⊥) → is_utf8 l ≡ false
-not_utf8 l h = not_true (is_utf8 l) (λ e. h (IsUtf8-from_is_utf8 l e))
+-- bytes are a text exactly where they are UTF-8
+pub text_yes : (l t : List ℕ) → t ≡ l → IsUtf8 l → Some t ≡ cond (is_utf8 l) (Some l) None
+text_yes l t e u = ap Some e ∙ sym (ap (λ b. cond b (Some l) None) (is_utf8-from_IsUtf8 l u))
+
+pub text_no : (l : List ℕ) → (IsUtf8 l → ⊥) → None ≡ cond (is_utf8 l) (Some l) None
+text_no l h = sym (ap (λ b. cond b (Some l) None) (not_true (is_utf8 l) (λ e. h (IsUtf8-from_is_utf8 l e))))
 
 pub declared-append : (ls ms : List Line) → declared (ls ++ ms) ≡ declared ls ++ declared ms
 declared-append [] ms = refl

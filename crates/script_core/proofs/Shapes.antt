@@ -1,5 +1,5 @@
 -- A text has the shape of a line exactly where it is the line's text.
-use Rattle.std.proofs.Common.{arith, ◌≡◌, ◌≢◌, ◌<◌, ◌×◌, ℕ, zero, suc, ◌+◌, List, [], ◌∷◌, ◌++◌, length, get_or, codes, Bool, true, false, cond, not, ◌&&◌, ◌==◌, Option, Some, None, option_map, option_and_then, refl, ap, sym, subst, ◌∙◌}
+use Rattle.std.proofs.Common.{arith, ◌≡◌, ◌≢◌, ◌<◌, ℕ, suc, List, [], ◌∷◌, ◌++◌, length, get_or, codes, Bool, true, false, cond, not, ◌&&◌, ◌==◌, Option, Some, None, option_map, option_and_then, refl, ap, sym, subst, ◌∙◌}
 use denote.Ref.{Bor}
 use Rattle.std.specs.List.{list_all}
 use Rattle.std.specs.Option.{MatchOption}
@@ -9,7 +9,7 @@ use Rattle.std.proofs.lemmas.Slice.Eq.{bytes_eq-Decides}
 use Rattle.script_core.specs.declared.script.Line.{Line}
 use Rattle.script_core.specs.declared.script.Line.TheVariants as line
 use Rattle.script_core.specs.Script.{is_letter_or_digit, is_name, is_word, is_event, has_value, line_text, is_fit}
-use Rattle.script_core.specs.Reading.{cut, event_parts, join_parts, parts, shape_of}
+use Rattle.script_core.specs.Reading.{cut, parts, shape_of}
 use Rattle.script_core.proofs.Lines.{head_true}
 
 -- the bytes have no space
@@ -162,12 +162,12 @@ shape_back (line.Join n u) h =
     ap (λ (o : Option Part). option_map (λ p. line.Join p.0 p.1) o) (cut_at n u (name_lacks n both.0))
 shape_back (line.Event n k e v) h =
     let both = head_true (is_name n) (is_event k e v) h in
-    let kind = head_true (is_word k) (not (bytes_eq k (codes "form")) && (is_word e && has_value v)) both.1 in
-    let rest = head_true (not (bytes_eq k (codes "form"))) (is_word e && has_value v) kind.1 in
-    let event = head_true (is_word e) (has_value v) rest.1 in
+    let worded = head_true (is_word k && not (bytes_eq k (codes "form")) && is_word e) (has_value v) both.1 in
+    let ended = head_true (is_word k && not (bytes_eq k (codes "form"))) (is_word e) worded.0 in
+    let kind = head_true (is_word k) (not (bytes_eq k (codes "form"))) ended.0 in
     ap (λ (o : Option Part). option_and_then (λ p. option_and_then (λ q. option_map (λ s. line.Event p.0 q.0 s.0 s.1) (cut q.1)) (cut p.1)) o) (cut_at n (k ++ 32 ∷ (e ++ 32 ∷ v)) (name_lacks n both.0))
     ∙ ap (λ (o : Option Part). option_and_then (λ q. option_map (λ s. line.Event n q.0 s.0 s.1) (cut q.1)) o) (cut_at k (e ++ 32 ∷ v) (word_lacks k kind.0))
-    ∙ ap (λ (o : Option Part). option_map (λ s. line.Event n k s.0 s.1) o) (cut_at e v (word_lacks e event.0))
+    ∙ ap (λ (o : Option Part). option_map (λ s. line.Event n k s.0 s.1) o) (cut_at e v (word_lacks e ended.1))
 shape_back (line.Step n) h = refl
 shape_back (line.Run n) h = refl
 shape_back (line.Html n) h = refl

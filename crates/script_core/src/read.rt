@@ -53,7 +53,10 @@ fn is_listed(name: &Text, names: &[Text]) -> bool
 fn text_of(bytes: &[u8]) -> Option<&str>
     ensures { option_copied result ≡ (if is_utf8 bytes.entry.now then Some bytes.entry.now else None) }
 {
-    str::from_utf8(bytes).ok()
+    match str::from_utf8(bytes) {
+        Ok(text) => Some(text),
+        Err(_) => None,
+    }
 }
 
 // The declared names, with that of a line that declares one.
