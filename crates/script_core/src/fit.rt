@@ -124,10 +124,10 @@ pub(crate) fn is_fit(alloc: Global, line: &Line) -> Result<bool, OutOfMemory>
             }
             is_event(alloc, kind.as_str(), event.as_str(), value.as_str())
         }
-        Line::Browser { name } => Ok(is_named(name)),
-        Line::Step { name } => Ok(is_named(name)),
-        Line::Run { name } => Ok(is_named(name)),
-        Line::Html { name } => Ok(is_named(name)),
-        Line::Frames { name } => Ok(is_named(name)),
+        Line::Browser { name }
+        | Line::Step { name }
+        | Line::Run { name }
+        | Line::Html { name }
+        | Line::Frames { name } => Ok(is_named(name)),
     }
 }

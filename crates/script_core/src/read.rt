@@ -130,12 +130,12 @@ impl Reader {
                     self.has_room()
                 }
             }
-            Line::Join { name, .. } => self.is_declared(name),
-            Line::Event { name, .. } => self.is_declared(name),
-            Line::Step { name } => self.is_declared(name),
-            Line::Run { name } => self.is_declared(name),
-            Line::Html { name } => self.is_declared(name),
-            Line::Frames { name } => self.is_declared(name),
+            Line::Join { name, .. }
+            | Line::Event { name, .. }
+            | Line::Step { name }
+            | Line::Run { name }
+            | Line::Html { name }
+            | Line::Frames { name } => self.is_declared(name),
         }
     }
 
