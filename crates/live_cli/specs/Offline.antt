@@ -4,7 +4,7 @@ use Rattle.std.specs.Prelude.{◌≡◌, ◌⊎◌, ℕ, List, [], ◌∷◌, �
 use Rattle.bundle_files.specs.declared.bundle.Bundle.{Bundle}
 use Rattle.bundle_files.specs.Bundle.{bundle_of}
 use Rattle.session_core.specs.declared.app.App.{App}
-use Rattle.replay_core.specs.declared.script.Line.{Line}
+use Rattle.script_core.specs.declared.script.Line.{Line}
 use Rattle.replay_core.specs.Output.{replay_output}
 use Rattle.replay_core.specs.Ends.{AddsAll, AddsFront}
 use Rattle.live_cli.specs.declared.status.Status.{Status}

@@ -11,7 +11,7 @@ use Rattle.text_core.specs.Outside.{Writes, Rises, Rose}
 use Rattle.text_core.specs.Keyed.{lookup, without_key, with_key}
 use Rattle.session_core.specs.declared.app.App.{App}
 use Rattle.replay_core.specs.declared.player.Player.{Player}
-use Rattle.replay_core.specs.declared.script.Line.{Line}
+use Rattle.script_core.specs.declared.script.Line.{Line}
 use Rattle.replay_core.specs.Output.{Board, changed, after_line, line_output, output_from, replay_output}
 use Rattle.replay_core.specs.Ends.{AddsAll, AddsFront}
 

@@ -1,7 +1,7 @@
 -- How the run of a script ends.
 use Rattle.std.specs.Prelude.{◌≡◌, ℕ, List, ◌++◌, take, Option, Some, IfSome}
 use Rattle.session_core.specs.declared.app.App.{App}
-use Rattle.replay_core.specs.declared.script.Line.{Line}
+use Rattle.script_core.specs.declared.script.Line.{Line}
 use Rattle.replay_core.specs.declared.run.ReplayEnd.{ReplayEnd}
 use Rattle.replay_core.specs.declared.run.ReplayEnd.TheVariants as ends
 use Rattle.replay_core.specs.Output.{replay_output}

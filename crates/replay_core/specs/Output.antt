@@ -4,8 +4,8 @@ use Rattle.text_core.specs.declared.by_key.KeyValue.{KeyValue}
 use Rattle.text_core.specs.Keyed.{lookup, with_key, without_key}
 use Rattle.session_core.specs.declared.app.App.{App}
 use Rattle.replay_core.specs.declared.player.Player.{Player}
-use Rattle.replay_core.specs.declared.script.Line.{Line}
-use Rattle.replay_core.specs.declared.script.Line.TheVariants as line
+use Rattle.script_core.specs.declared.script.Line.{Line}
+use Rattle.script_core.specs.declared.script.Line.TheVariants as line
 use Rattle.replay_core.specs.Player.{new_player, hears_join, runs, frames_printed, new_frames, page_of, html_text, frames_text}
 
 -- the browsers by their names

@@ -8,7 +8,7 @@ ghost use Rattle.replay_core.specs.Player.{new_player, hears_join, runs, frames_
 ghost use Rattle.replay_core.specs.Ends.{ReplayEnds};
 
 use crate::player::{Player, frames, hear_join, html, run};
-use crate::script::{Line, Script};
+use script_core::{Line, Script};
 use session_core::App;
 use std::alloc::Global;
 use std::sync::Arc;
