@@ -10,7 +10,9 @@ use Rattle.diff_tree.specs.Frame.{Frame, FrameBody, empty, rendered, changed, re
 use Rattle.doc_model.specs.Evaluation.{Res, then_do, on_res}
 use Rattle.doc_model.specs.Scopes.{Site}
 use Rattle.doc_model.specs.Bundle.{site_of}
-use Rattle.doc_model.specs.Effects.{Effect, assign_to, Handler, of_view, of_module, ViewMeaning, Waiting}
+use Rattle.view_api.specs.Effect.{Effect, assign_to}
+use Rattle.view_api.specs.Meaning.{Handler, of_view, of_module, ViewMeaning}
+use Rattle.doc_model.specs.Effects.{Waiting}
 use Rattle.doc_model.specs.Message.{MessageHead, plain_value, Message, join, event}
 use Rattle.doc_model.specs.Process.{World, Route, Page, ProcessState, begin_state, page_text, Stepped, step_message}
 use Rattle.doc_model.proofs.ExampleParts.{tag, place, one, put_assign, no_body}

@@ -5,6 +5,8 @@ use Rattle.serde_json.specs.Data.{Data}
 use Rattle.serde_json.specs.Written.{compact_text}
 use Rattle.value_core.specs.Value.{Value, whole_number, Assigns, no_assigns, assign}
 use Rattle.value_core.specs.declared.raise.Raise.TheVariants.{BadArgument, Deep, InboxFull, View}
+use Rattle.view_api.specs.Effect.{Effect, assign_to, stream_insert, stream_delete, stream_reset, subscribe, unsubscribe, publish, send_self, push_event}
+use Rattle.view_api.specs.Meaning.{ViewMeaning}
 use Rattle.diff_tree.specs.Container.{Position, at_end, at_index, Limit, no_limit, first_few, last_few, Insert, Batch}
 use Rattle.diff_tree.specs.Spelling.{Pushed}
 use Rattle.doc_model.specs.Environment.{Stream, with_key}
@@ -12,19 +14,6 @@ use Rattle.doc_model.specs.Evaluation.{Res, then_do, on_res, or_raise, value_dep
 use Rattle.doc_model.specs.Calls.{has_slot}
 use Rattle.value_core.specs.Json.{json_of_value}
 use Rattle.doc_model.specs.Walk.{Owner, Views}
-
--- one effect of a handler
-pub data Effect : Type 0 where
-  assign_to : List ℕ → Value → Effect
-  -- a stream, the dom id, the item, the position (-1 for the end) and the limit
-  stream_insert : List ℕ → List ℕ → Value → ℤ → Option ℤ → Effect
-  stream_delete : List ℕ → List ℕ → Effect
-  stream_reset : List ℕ → Effect
-  subscribe : List ℕ → Effect
-  unsubscribe : List ℕ → Effect
-  publish : List ℕ → Value → Effect
-  send_self : Value → Effect
-  push_event : List ℕ → Value → Effect
 
 -- what the running system does after a message; a published value travels as compact JSON
 pub data Action : Type 0 where
@@ -136,25 +125,6 @@ apply_effect (push_event n v) p = on_res (λ d. (p.0, record p.1 { pushed = p.1.
 abbrev pub apply_effects : List Effect → Applied → Res Applied
 apply_effects [] p = Ok p
 apply_effects (e ∷ es) p = then_do (apply_effect e p) (apply_effects es)
-
--- whose handler an event calls: a view by its number, or a module of LiveComponents by its name
-pub data Handler : Type 0 where
-  of_view : ℕ → Handler
-  of_module : List ℕ → Handler
-
--- the pure meaning of the handed-in views: the effects of each handler, or none where it raises
-pub record ViewMeaning : Type 0 where
-  -- by view and params
-  pub mount : ℕ → Value → Option (List Effect)
-  -- by view, params and assigns
-  pub handle_params : ℕ → Value → Assigns → Option (List Effect)
-  -- by owner, event, value and assigns
-  pub handle_event : Handler → List ℕ → Value → Assigns → Option (List Effect)
-  -- by view, message and assigns
-  pub handle_info : ℕ → Value → Assigns → Option (List Effect)
-  pub mount_component : List ℕ → Option (List Effect)
-  -- by module, attributes and assigns
-  pub update_component : List ℕ → Assigns → Assigns → Option (List Effect)
 
 -- a handler that gives no effects raises
 abbrev pub applied_or_raise : Option (List Effect) → Applied → Res Applied

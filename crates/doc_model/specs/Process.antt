@@ -21,7 +21,9 @@ use Rattle.doc_model.specs.Once.{left, left_to}
 use Rattle.doc_model.specs.Run.{settled_stream, settled_components}
 use Rattle.doc_model.specs.Walk.{Owner, owner_of, component_with, Walk, in_state, render_state}
 use Rattle.value_core.specs.Json.{value_of_json}
-use Rattle.doc_model.specs.Effects.{Effect, Action, Waiting, heard, mailed, sent, Rest, Applied, Handler, of_view, of_module, ViewMeaning, applied_or_raise, empty_stream, views_of}
+use Rattle.view_api.specs.Effect.{Effect}
+use Rattle.view_api.specs.Meaning.{Handler, of_view, of_module, ViewMeaning}
+use Rattle.doc_model.specs.Effects.{Action, Waiting, heard, mailed, sent, Rest, Applied, applied_or_raise, empty_stream, views_of}
 use Rattle.doc_model.specs.Message.{MessageHead, EventValue, plain_value, form_text, Message, beat, join, leave, event, patch, will_destroy, destroyed, message_of}
 
 -- the view that a URL leads to, and its params

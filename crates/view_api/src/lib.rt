@@ -1,0 +1,10 @@
+//! What a view is to a process: its handlers, each with a pure meaning, and the effects that they ask for.
+#![tactic(auto)]
+
+mod effect;
+#[cfg(test)]
+mod tests;
+mod views;
+
+pub use effect::{Effect, Effects};
+pub use views::{Owner, ViewFault, Views};
