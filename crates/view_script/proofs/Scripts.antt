@@ -1,16 +1,11 @@
 -- Assigns and the numbers given since; steps one by one.
-use Rattle.std.proofs.Common.{◌≡◌, ◌<◌, ◌+◌, ◌++◌, ◌^◌, ℕ, ℤ, List, [], ◌∷◌, length, get_or, drop, map, Bool, true, false, cond, Option, Some, None, option_map, refl, sym, ap, ◌∙◌, append_assoc, w64}
-use Rattle.std.specs.Prelude.{nat_lt, FitsSigned}
-use Rattle.std.specs.Option.{option_and_then, SomeIff}
+use Rattle.std.proofs.Common.{◌≡◌, ◌<◌, ◌+◌, ◌++◌, ℕ, ℤ, List, [], ◌∷◌, length, get_or, drop, Bool, true, false, cond, Option, Some, None, option_map, refl, sym, ap, ◌∙◌, append_assoc}
+use Rattle.std.specs.Option.{option_and_then}
 use Rattle.std.specs.Str.{bytes_eq}
-use Rattle.std.specs.Int.Signed.{mag}
 use Rattle.std.proofs.lemmas.Slice.Eq.{bytes_eq-Decides}
-use Rattle.std.proofs.lemmas.Bool.{lt-ltb}
-use Rattle.std.proofs.lemmas.Bool.Decides.{Decides-ltb}
 use Rattle.text_core.specs.declared.by_key.KeyValue.{KeyValue}
 use Rattle.text_core.specs.Keyed.{lookup, with_key}
 use Rattle.text_core.proofs.Keyed.{cons_at, lookup_set, lookup_other}
-use Rattle.value_core.specs.Value as model
 use Rattle.value_core.specs.Value.{whole_number, Assigns, assign}
 use Rattle.value_core.specs.View.{view, assigns_view}
 use Rattle.value_core.specs.declared.value.Value.{Value}
@@ -18,21 +13,7 @@ use Rattle.view_api.specs.Effect.{Effect, assign_to}
 use Rattle.bundle_files.specs.declared.bundle.Amount.{Amount}
 use Rattle.bundle_files.specs.declared.bundle.Amount.TheVariants as amount
 use Rattle.bundle_files.specs.declared.bundle.Step.{Step}
-use Rattle.bundle_files.specs.declared.bundle.Step.TheVariants as step
-use Rattle.view_script.specs.Script.{number_of, value_at, number_at, in_64_bits, sum_of, difference_of, number_given, effects_of, given_or, held}
-
--- ---- 64 bits
-
-if_true : {X : Type 0} (b : Bool) (x y : X) → b ≡ true → cond b x y ≡ x
-if_true b x y e = rw e
-
-pub fits : (z : ℤ) (r : Option ℤ) → SomeIff r (FitsSigned w64 z) z → r ≡ in_64_bits z
-fits z None h = by (nat_lt (mag z) (2 ^ 63)) refl
-  where
-    by : (b : Bool) → nat_lt (mag z) (2 ^ 63) ≡ b → None ≡ cond b (Some z) None
-    by true e = absurd (h (record { sfits = (Decides-ltb (mag z) (2 ^ 63)).0 e }))
-    by false e = refl
-fits z (Some x) h = ap Some h.1 ∙ sym (if_true (nat_lt (mag z) (2 ^ 63)) (Some z) None (lt-ltb (mag z) (2 ^ 63) h.0.sfits))
+use Rattle.view_script.specs.Script.{number_of, value_at, number_at, sum_of, difference_of, number_given, name_of, value_of, effects_of, given_or, held}
 
 -- ---- what names hold
 
@@ -102,26 +83,25 @@ goes_first given before so_far steps g e = (
   nothing_map (effects_of before steps) ∙ ap (λ (l : List Effect). option_map (λ more. l ++ more) (effects_of before steps)) (sym e),
 )
 
-here : (steps : List Step) (i : ℕ) (s : Step) (name : List ℕ) (a : Amount) → i < length steps → s ≡ get_or steps i s → s ≡ step.Assign name a → drop i steps ≡ step.Assign name a ∷ drop (i + 1) steps
-here steps i s name a l is e = cons_at steps i s l is ∙ ap (λ (x : Step). x ∷ drop (i + 1) steps) e
-
-first_step : (now : Assigns) (name : List ℕ) (a : Amount) (rest : List Step) (o : Option ℤ) → number_given (λ m. number_at m now) a ≡ o
-    → effects_of now (step.Assign name a ∷ rest) ≡ option_and_then (λ n. option_map (λ more. assign_to name (whole_number n) ∷ more) (effects_of (assign name (whole_number n) now) rest)) o
-first_step now name a rest o h = ap (option_and_then (λ n. option_map (λ more. assign_to name (whole_number n) ∷ more) (effects_of (assign name (whole_number n) now) rest))) h
+-- the rest of the steps begins with this one
+first_step : (now : Assigns) (s : Step) (rest : List Step) (o : Option ℤ) → number_given (λ m. number_at m now) (value_of s) ≡ o
+    → effects_of now (s ∷ rest) ≡ option_and_then (λ n. option_map (λ more. assign_to (name_of s) (whole_number n) ∷ more) (effects_of (assign (name_of s) (whole_number n) now) rest)) o
+first_step now s rest o h = ap (option_and_then (λ n. option_map (λ more. assign_to (name_of s) (whole_number n) ∷ more) (effects_of (assign (name_of s) (whole_number n) now) rest))) h
 
 pub goes_on : (given given' : List (KeyValue ℤ)) (before : Assigns) (so_far so_far' : List Effect) (steps : List Step) (whole : Option (List Effect)) (i : ℕ) (s : Step) (name : List ℕ) (a : Amount) (n : ℤ)
-    → i < length steps → s ≡ get_or steps i s → s ≡ step.Assign name a → number_given (held given before) a ≡ Some n → given' ≡ with_key name n given → so_far' ≡ so_far ++ assign_to name (whole_number n) ∷ []
+    → i < length steps → s ≡ get_or steps i s → name ≡ name_of s → a ≡ value_of s → number_given (held given before) a ≡ Some n
+    → given' ≡ with_key name n given → so_far' ≡ so_far ++ assign_to name (whole_number n) ∷ []
     → GoesOn given before so_far (drop i steps) whole → GoesOn given' before so_far' (drop (i + 1) steps) whole
-goes_on given given' before so_far so_far' steps whole i s name a n l is e number g f (now, agrees, h) =
-    let rest : Option (List Effect) = effects_of (assign name (whole_number n) now) (drop (i + 1) steps) in
-    let front : effects_of now (drop i steps) ≡ option_map (λ more. assign_to name (whole_number n) ∷ more) rest
-    = ap (effects_of now) (here steps i s name a l is e) ∙ first_step now name a (drop (i + 1) steps) (Some n) (same_number (λ m. number_at m now) (held given before) a agrees ∙ number) in (
-      assign name (whole_number n) now,
-      λ m. agrees_on given before now name n agrees m ∙ ap (λ (l : List (KeyValue ℤ)). held l before m) (sym g),
-      h ∙ ap (option_map (λ more. so_far ++ more)) front ∙ sym (snoc_map so_far (assign_to name (whole_number n)) rest) ∙ ap (λ (es : List Effect). option_map (λ more. es ++ more) rest) (sym f),
+goes_on given given' before so_far so_far' steps whole i s name a n l is names values number g f (now, agrees, h) =
+    let rest : Option (List Effect) = effects_of (assign (name_of s) (whole_number n) now) (drop (i + 1) steps) in
+    let its : number_given (λ m. number_at m now) (value_of s) ≡ Some n
+    = same_number (λ m. number_at m now) (held given before) (value_of s) agrees ∙ ap (number_given (held given before)) (sym values) ∙ number in
+    let front : effects_of now (drop i steps) ≡ option_map (λ more. assign_to (name_of s) (whole_number n) ∷ more) rest
+    = ap (effects_of now) (cons_at steps i s l is) ∙ first_step now s (drop (i + 1) steps) (Some n) its in
+    let pushed : so_far' ≡ so_far ++ assign_to (name_of s) (whole_number n) ∷ [] = f ∙ ap (λ (x : List ℕ). so_far ++ assign_to x (whole_number n) ∷ []) names in
+    let kept : given' ≡ with_key (name_of s) n given = g ∙ ap (λ (x : List ℕ). with_key x n given) names in (
+      assign (name_of s) (whole_number n) now,
+      λ m. agrees_on given before now (name_of s) n agrees m ∙ ap (λ (x : List (KeyValue ℤ)). held x before m) (sym kept),
+      h ∙ ap (option_map (λ more. so_far ++ more)) front ∙ sym (snoc_map so_far (assign_to (name_of s) (whole_number n)) rest)
+          ∙ ap (λ (es : List Effect). option_map (λ more. es ++ more) rest) (sym pushed),
     )
-
-pub goes_wrong : (given : List (KeyValue ℤ)) (before : Assigns) (so_far : List Effect) (steps : List Step) (whole : Option (List Effect)) (i : ℕ) (s : Step) (name : List ℕ) (a : Amount)
-    → i < length steps → s ≡ get_or steps i s → s ≡ step.Assign name a → number_given (held given before) a ≡ None → GoesOn given before so_far (drop i steps) whole → whole ≡ None
-goes_wrong given before so_far steps whole i s name a l is e number (now, agrees, h) =
-    h ∙ ap (option_map (λ more. so_far ++ more)) (ap (effects_of now) (here steps i s name a l is e) ∙ first_step now name a (drop (i + 1) steps) None (same_number (λ m. number_at m now) (held given before) a agrees ∙ number))

@@ -48,11 +48,18 @@ number_given numbers (amount.Assign m) = numbers m
 number_given numbers (amount.Sum m n) = sum_of (numbers m) n
 number_given numbers (amount.Difference m n) = difference_of (numbers m) n
 
+-- what a step assigns, and the amount that it gives
+abbrev pub name_of : Step → List ℕ
+name_of (step.Assign name value) = name
+
+abbrev pub value_of : Step → Amount
+value_of (step.Assign name value) = value
+
 -- the effects of steps; none where one raises
 abbrev pub effects_of : Assigns → List Step → Option (List Effect)
 effects_of as' [] = Some []
-effects_of as' (step.Assign name v ∷ steps) =
-    option_and_then (λ n. option_map (λ more. assign_to name (whole_number n) ∷ more) (effects_of (assign name (whole_number n) as') steps)) (number_given (λ m. number_at m as') v)
+effects_of as' (s ∷ steps) =
+    option_and_then (λ n. option_map (λ more. assign_to (name_of s) (whole_number n) ∷ more) (effects_of (assign (name_of s) (whole_number n) as') steps)) (number_given (λ m. number_at m as') (value_of s))
 
 abbrev pub given_or : Option ℤ → Option ℤ → Option ℤ
 given_or (Some n) before = Some n

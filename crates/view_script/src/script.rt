@@ -5,14 +5,28 @@ ghost use Rattle.value_core.specs.Value.{whole_number};
 ghost use Rattle.value_core.specs.View.{assigns_view};
 ghost use Rattle.view_api.specs.Effect.{assign_to};
 ghost use Rattle.view_api.specs.View.{effect_view, effects_view, Means};
-ghost use Rattle.view_script.specs.Script.{effects_of};
+ghost use Rattle.view_script.specs.Script.{name_of, value_of, effects_of};
 
 use crate::number::number_given;
-use bundle_files::Step;
+use bundle_files::{Amount, Step};
 use std::alloc::Global;
 use text_core::{ByKey, OutOfMemory, Seq, Text};
 use value_core::{Assigns, Value};
 use view_api::{Effect, Effects, ViewFault};
+
+fn name_of(step: &Step) -> &Text
+    ensures { result.now ≡ name_of step.now }
+{
+    let Step::Assign { name, value: _ } = step;
+    name
+}
+
+fn value_of(step: &Step) -> &Amount
+    ensures { result.now ≡ value_of step.now }
+{
+    let Step::Assign { name: _, value } = step;
+    value
+}
 
 fn number_effect(name: Text, number: i64) -> Effect
     ensures { effect_view result ≡ assign_to name (whole_number number) }
@@ -46,11 +60,10 @@ pub fn effects_of(alloc: Global, steps: &[Step], assigns: &Assigns) -> Result<Ef
     let mut given = ByKey::new(alloc);
     let mut effects = Seq::new(alloc);
     for step in steps {
-        let Step::Assign { name, value } = step;
-        let Some(number) = number_given(&given, assigns, value) else {
+        let Some(number) = number_given(&given, assigns, value_of(step)) else {
             return Err(ViewFault::Raised);
         };
-        push_number(alloc, name, number, &mut given, &mut effects)?;
+        push_number(alloc, name_of(step), number, &mut given, &mut effects)?;
     }
     Ok(effects)
 }
