@@ -4,6 +4,8 @@
 mod fault;
 mod place;
 mod render;
+#[cfg(test)]
+mod tests;
 
 pub use fault::RenderFault;
 pub use render::{first, next};

@@ -4,6 +4,8 @@
 mod app;
 mod fault;
 mod page;
+#[cfg(test)]
+mod tests;
 
 pub use app::{App, Destination};
 pub use fault::PageFault;
