@@ -1,0 +1,13 @@
+//! A client's tree, what diffs make of it, and its page.
+#![tactic(auto)]
+
+mod fault;
+mod held;
+pub mod laws;
+mod merging;
+mod plan;
+mod take;
+pub use fault::MergeFault;
+pub use held::HeldNode;
+pub use merging::merge;
+pub use take::take_tree;
