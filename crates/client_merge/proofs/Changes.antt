@@ -4,6 +4,7 @@ use Rattle.diff_tree.specs.Tree.{Tree, text, Trees, no_trees, tree, count, Chang
 use Rattle.diff_tree.specs.Client.{and_then}
 use Rattle.client_merge.specs.Reading.{is_free, put_change, trees_of, written}
 use Rattle.client_merge.specs.Laws.{reach}
+use Rattle.client_merge.specs.Held.{blank_trees}
 
 -- ---- one place
 
@@ -288,10 +289,6 @@ writes_fit (change c cs) (tree t ts) = by (merge_change t c) (merge_changes ts c
     by None (Some us) h = tt
     by (Some u) None h = tt
     by (Some u) (Some us) h = omega (arith, h)
-
-abbrev pub blank_trees : ℕ → Trees
-blank_trees zero = no_trees
-blank_trees (suc n) = tree (text []) (blank_trees n)
 
 pub count_blank : (n : ℕ) → count (blank_trees n) ≡ n
 count_blank zero = refl

@@ -1,6 +1,11 @@
 -- What a client holds, as a tree.
-use Rattle.std.specs.Prelude.{ℕ, List, [], ◌∷◌, map, Option, Some, None, option_map}
-use Rattle.diff_tree.specs.Tree.{Tree, text, node, Trees, no_trees, tree, show_value, show_values}
+use Rattle.std.specs.Prelude.{ℕ, zero, suc, List, [], ◌∷◌, map, Option}
+use Rattle.text_core.specs.declared.by_key.KeyValue.{KeyValue}
+use Rattle.diff_tree.specs.Tree.{Tree, text, node, Trees, no_trees, tree, show_value, show_values, no_changes}
+use Rattle.diff_tree.specs.Client.{and_then}
+use Rattle.diff_tree.specs.Parts.{places_json, seen}
+use Rattle.diff_tree.specs.declared.part.PlaceValue.{PlaceValue}
+use Rattle.client_merge.specs.Reading.{changes_in, trees_of}
 use Rattle.client_merge.specs.declared.held.HeldNode.{HeldNode}
 use Rattle.client_merge.specs.declared.held.HeldNode.TheOpen.{HeldNode-F}
 use Rattle.client_merge.specs.declared.held.HeldNode.TheFolds.{fold-HeldNode}
@@ -26,3 +31,12 @@ page_of t = show_value (λ _. []) t
 
 abbrev pub pages_of : Trees → List (List ℕ)
 pages_of ts = show_values (λ _. []) ts
+
+-- the trees that are sent for the places of a node that has statics
+abbrev pub trees_in : List (KeyValue PlaceValue) → Option Trees
+trees_in es = and_then (changes_in (places_json (seen es)) no_changes) trees_of
+
+-- so many empty texts
+abbrev pub blank_trees : ℕ → Trees
+blank_trees zero = no_trees
+blank_trees (suc n) = tree (text []) (blank_trees n)

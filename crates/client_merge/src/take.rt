@@ -1,11 +1,12 @@
 //! Whole trees, taken from nodes as they are sent.
-ghost use Rattle.std.specs.Prelude.{◌≡◌, ◌∷◌, Some, None, replicate, length, IfOk, option_map};
+ghost use Rattle.std.specs.Prelude.{◌≡◌, ◌<◌, ◌≤◌, Some, None, true, length, codes, IfOk, OnErr};
 ghost use Rattle.std.specs.Result.{IsErrOf};
 ghost use Rattle.client_merge.specs.declared.fault.MergeFault.TheVariants as MergeFault;
 ghost use Rattle.diff_tree.specs.Parts.{part_data, place_data, node_data};
-ghost use Rattle.diff_tree.specs.Tree.{node};
-ghost use Rattle.client_merge.specs.Reading.{tree_of};
-ghost use Rattle.client_merge.specs.Held.{held_tree, held_trees};
+ghost use Rattle.diff_tree.specs.Grammar.{is_place};
+ghost use Rattle.text_core.specs.Keyed.{without_key};
+ghost use Rattle.client_merge.specs.Reading.{number_of, tree_of};
+ghost use Rattle.client_merge.specs.Held.{held_tree, held_trees, trees_in, blank_trees};
 
 use crate::plan::place_number;
 use crate::{HeldNode, MergeFault};
@@ -43,9 +44,6 @@ pub(crate) fn take_node(
     ensures ok { IfOk result (λ h. tree_of (node_data (Some statics) places) ≡ Some (held_tree h)) }
     ensures bad { IsErrOf result MergeFault.BadFrame → tree_of (node_data (Some statics) places) ≡ None }
 {
-    // Statics are sent as `s`, so no place is.
-    let mut places = places;
-    let _ = places.remove("s");
     let places = take_places(alloc, places)?;
     Ok(HeldNode::Node { statics, places })
 }
@@ -61,29 +59,49 @@ fn take_value(alloc: Global, value: PlaceValue) -> Result<HeldNode, MergeFault>
     }
 }
 
+// What stands at the places of a node that has statics. These are sent as `s`, so no place is.
 #[cycle(take)]
-fn take_places(
-    alloc: Global,
-    places: ByKey<PlaceValue>,
-) -> Result<Seq<HeldNode>, MergeFault>
+fn take_places(alloc: Global, places: ByKey<PlaceValue>) -> Result<Seq<HeldNode>, MergeFault>
+    ensures ok { IfOk result (λ hs. trees_in places ≡ Some (held_trees hs)) }
+    ensures bad { IsErrOf result MergeFault.BadFrame → trees_in places ≡ None }
 {
-    let count = places.len();
+    let count = count_places(&places);
     let mut nodes = blanks(alloc, count)?;
     'places: for KeyValue { key, value } in places.into_vec() {
-        let Some(place) = place_number(key.as_str()) else {
-            return Err(MergeFault::BadFrame);
-        };
-        if place >= count {
-            return Err(MergeFault::BadFrame);
+        if key.as_str() == "s" {
+            continue;
         }
+        let place = place_below(key.as_str(), count)?;
         nodes.set(place, take_value(alloc, value)?);
     }
     Ok(nodes)
 }
 
+// How many places there are beside `s`.
+fn count_places(places: &ByKey<PlaceValue>) -> usize
+    ensures { result ≡ length (without_key (codes "s") places.now) }
+{
+    if places.contains("s") {
+        places.len().saturating_sub(1)
+    } else {
+        places.len()
+    }
+}
+
+// The number of a place, which is below this one.
+fn place_below(key: &str, count: usize) -> Result<usize, MergeFault>
+    ensures ok { IfOk result (λ n. (n ≡ number_of key.now) × (is_place key.now ≡ true) × (n < count)) }
+    ensures bad { OnErr result ((is_place key.now ≡ true) → count ≤ number_of key.now) }
+{
+    match place_number(key) {
+        Some(place) if place < count => Ok(place),
+        _ => Err(MergeFault::BadFrame),
+    }
+}
+
 // So many empty texts.
 fn blanks(alloc: Global, count: usize) -> Result<Seq<HeldNode>, OutOfMemory>
-    ensures { IfOk result (λ hs. length hs ≡ count) }
+    ensures { IfOk result (λ hs. held_trees hs ≡ blank_trees count) }
 {
     let mut nodes = Seq::new(alloc);
     'nodes: for _ in 0..count {
