@@ -3,3 +3,5 @@ pub mod Gathered
 pub mod Members
 pub mod Views
 pub mod Loops
+pub mod Numbers
+pub mod Applies

@@ -213,3 +213,6 @@ take_last n all now p =
     let counted : writes p.done ≡ n = (let c = p.counted in omega arith) in
     ap (λ (o : Option Changes). and_then o trees_of) (sym p.whole)
     ∙ holds (merge_changes (blank_trees n) p.done) (λ ts. trees_of p.done ≡ Some ts) now (fill n p.done p.opens counted) p.here
+
+pub taking_count : (n : ℕ) (all : Option Changes) (rest : List (KeyValue PlaceValue)) (now : Trees) → Taking n all rest now → count now ≡ n
+taking_count n all rest now p = holds (merge_changes (blank_trees n) p.done) (λ us. count us ≡ count (blank_trees n)) now (count_kept p.done (blank_trees n)) p.here ∙ count_blank n

@@ -12,9 +12,9 @@ use Rattle.std.proofs.lemmas.Fmt.{decimal-digits_value}
 use Rattle.std.proofs.lemmas.Bool.Decides.{eqb_tells}
 use Rattle.serde_json.specs.Data.{Data, string, array, object, Items, no_items, item, Members, no_members, member, put}
 use Rattle.serde_json.specs.Find.{get_member}
-use Rattle.serde_json.proofs.Views.{get_member-put}
+use Rattle.serde_json.proofs.Views.{get_member-put, get_member-put_other}
 use Rattle.text_core.specs.declared.by_key.KeyValue.{KeyValue}
-use Rattle.text_core.specs.Keyed.{is_before, ascend, keys, on_value}
+use Rattle.text_core.specs.Keyed.{is_before, ascend, keys, on_value, lookup, without_key}
 use Rattle.text_core.proofs.Keyed.{order, both_of}
 use Rattle.text_core.proofs.Decimals.{own}
 use Rattle.diff_tree.specs.Tree.{Tree, text, node, Trees, Change, write, inner, Changes, no_changes, option_both}
@@ -278,10 +278,98 @@ pub written_all : (st : List (List ℕ)) (q : Option Trees) → and_then (option
 written_all st None = refl
 written_all st (Some ts) = refl
 
--- what is sent without statics is no tree
-pub inner_unwritten : (es : List (KeyValue PlaceValue)) → ascend (keys es) ≡ true → tree_of (node_data None es) ≡ None
-inner_unwritten es up = ap (λ (o : Option Change). and_then o written) (inner_is es up) ∙ by (gathered (readings es) no_changes)
+pub node_trees : (st : List (List ℕ)) (es : List (KeyValue PlaceValue)) → tree_of (node_data (Some st) es) ≡ option_map (node st) (and_then (changes_in (places_json (seen es)) no_changes) trees_of)
+node_trees st es = ap (λ (o : Option Change). and_then o written) (under_statics st (places_json (seen es))) ∙ written_all st (and_then (changes_in (places_json (seen es)) no_changes) trees_of)
+
+s_sent : (es : List (KeyValue PlaceValue)) → Holds (get_member s_key (places_json (seen es))) (λ d. texts_of d ≡ None)
+s_sent [] = tt
+s_sent (e ∷ es) = by (order s_key e.key) refl (s_sent es)
   where
-    by : (q : Option Changes) → and_then (option_map inner q) written ≡ None
-    by None = refl
-    by (Some cs) = refl
+    apart : (o : Ordering) → order s_key e.key ≡ o → is_eq o ≡ false → s_key ≡ e.key → ⊥
+    apart o is differs same = true≢false (sym same_text_here ∙ ap is_eq is ∙ differs)
+      where
+        same_text_here : is_eq (order s_key e.key) ≡ true
+        same_text_here = ap (λ k. is_eq (order s_key k)) (sym same)
+
+    other : (s_key ≡ e.key → ⊥) → Holds (get_member s_key (places_json (seen es))) (λ d. texts_of d ≡ None) → Holds (get_member s_key (put e.key (place_data e.value) (places_json (seen es)))) (λ d. texts_of d ≡ None)
+    other differs h = subst (λ (o : Option Data). Holds o (λ d. texts_of d ≡ None)) (sym (get_member-put_other s_key e.key (place_data e.value) (places_json (seen es)) differs)) h
+
+    by : (o : Ordering) → order s_key e.key ≡ o → Holds (get_member s_key (places_json (seen es))) (λ d. texts_of d ≡ None) → Holds (get_member s_key (put e.key (place_data e.value) (places_json (seen es)))) (λ d. texts_of d ≡ None)
+    by Less is h = other (apart Less is refl) h
+    by Equal is h =
+        subst (λ (o : Option Data). Holds o (λ d. texts_of d ≡ None))
+        (sym (ap (λ k. get_member s_key (put k (place_data e.value) (places_json (seen es)))) (sym (exact_bytes s_key e.key is)) ∙ get_member-put s_key (place_data e.value) (places_json (seen es))))
+        (no_texts e.value)
+    by Greater is h = other (apart Greater is refl) h
+
+-- what is sent without statics changes places alone
+pub inner_only : (es : List (KeyValue PlaceValue)) (f : Change → Option Tree) → ((cs : Changes) → f (inner cs) ≡ None) → and_then (change_of (node_data None es)) f ≡ None
+inner_only es f h = by (changes_in (places_json (seen es)) no_changes) (get_member s_key (places_json (seen es))) (s_sent es)
+  where
+    by : (x : Option Changes) (o : Option Data) → Holds o (λ d. texts_of d ≡ None) → and_then (and_then x (node_change o)) f ≡ None
+    by None o g = refl
+    by (Some cs) None g = h cs
+    by (Some cs) (Some d) g = ap (λ (o : Option (List (List ℕ))). and_then (option_both (λ st ts. write (node st ts)) o (trees_of cs)) f) g
+
+-- what is sent without statics is no tree
+pub inner_unwritten : (p : Part) → None ≡ statics_of p → tree_of (part_data p) ≡ None
+inner_unwritten p is = ap tree_of (part_is p ∙ ap (λ st. node_data st (places_of p)) (sym is)) ∙ inner_only (places_of p) written (λ cs. refl)
+
+above_s : (es : List (KeyValue PlaceValue)) → is_before s_key (keys es) ≡ true → ascend (keys es) ≡ true → unstatic es ≡ es
+above_s [] h g = refl
+above_s (e ∷ es) h g =
+    let q = both_of (is_before e.key (keys es)) (ascend (keys es)) g in
+    ap (λ (b : Bool). if b then unstatic es else e ∷ unstatic es) (is_s e.key Less (is_less _ h))
+    ∙ ap (λ l. e ∷ l) (above_s es (below_rest s_key e.key (keys es) h q.0) q.1)
+
+pub without_s : (es : List (KeyValue PlaceValue)) → ascend (keys es) ≡ true → unstatic es ≡ without_key s_key es
+without_s [] h = refl
+without_s (e ∷ es) h = by (order s_key e.key) refl (without_s es q.1)
+  where
+    q : (is_before e.key (keys es) ≡ true) × (ascend (keys es) ≡ true)
+    q = both_of (is_before e.key (keys es)) (ascend (keys es)) h
+
+    other : (o : Ordering) → order s_key e.key ≡ o → is_eq o ≡ false → unstatic es ≡ without_key s_key es → unstatic (e ∷ es) ≡ without_key s_key (e ∷ es)
+    other o is differs rest =
+        ap (λ (b : Bool). if b then unstatic es else e ∷ unstatic es) (is_s e.key o is ∙ differs)
+        ∙ ap (λ l. e ∷ l) rest
+        ∙ sym (ap (λ (b : Bool). if b then es else e ∷ without_key s_key es) (sym (is_eq-slice_cmp s_key e.key) ∙ ap is_eq is ∙ differs))
+
+    by : (o : Ordering) → order s_key e.key ≡ o → unstatic es ≡ without_key s_key es → unstatic (e ∷ es) ≡ without_key s_key (e ∷ es)
+    by Less is rest = other Less is refl rest
+    by Equal is rest =
+        ap (λ (b : Bool). if b then unstatic es else e ∷ unstatic es) (is_s e.key Equal is)
+        ∙ above_s es (subst (λ k. is_before k (keys es) ≡ true) (sym (exact_bytes s_key e.key is)) q.0) q.1
+        ∙ sym (ap (λ (b : Bool). if b then es else e ∷ without_key s_key es) (sym (is_eq-slice_cmp s_key e.key) ∙ ap is_eq is))
+    by Greater is rest = other Greater is refl rest
+
+pub one_less : (k : List ℕ) (es : List (KeyValue PlaceValue)) → is_some (lookup k es) ≡ true → suc (length (without_key k es)) ≡ length es
+one_less k [] h = cc
+one_less k (e ∷ es) h = by (bytes_eq k e.key) h (one_less k es)
+  where
+    by : (b : Bool) → is_some (if b then Some e.value else lookup k es) ≡ true → (is_some (lookup k es) ≡ true → suc (length (without_key k es)) ≡ length es)
+        → suc (length (if b then es else e ∷ without_key k es)) ≡ suc (length es)
+    by true h rest = refl
+    by false h rest = ap suc (rest h)
+
+pub none_less : (k : List ℕ) (es : List (KeyValue PlaceValue)) → is_some (lookup k es) ≡ false → length (without_key k es) ≡ length es
+none_less k [] h = refl
+none_less k (e ∷ es) h = by (bytes_eq k e.key) h (none_less k es)
+  where
+    by : (b : Bool) → is_some (if b then Some e.value else lookup k es) ≡ false → (is_some (lookup k es) ≡ false → length (without_key k es) ≡ length es)
+        → length (if b then es else e ∷ without_key k es) ≡ suc (length es)
+    by true h rest = cc
+    by false h rest = ap suc (rest h)
+
+pub trees_are : (es : List (KeyValue PlaceValue)) → ascend (keys es) ≡ true → and_then (changes_in (places_json (seen es)) no_changes) trees_of ≡ and_then (gathered (readings (unstatic es)) no_changes) trees_of
+trees_are es up = ap (λ ms. and_then (changes_in ms no_changes) trees_of) (places_chain es up) ∙ ap (λ (o : Option Changes). and_then o trees_of) (changes_chain es no_changes)
+
+pub unwritten_change : (st : List (List ℕ)) (es : List (KeyValue PlaceValue)) → tree_of (node_data (Some st) es) ≡ None → change_of (node_data (Some st) es) ≡ None
+unwritten_change st es h = by (and_then (changes_in (places_json (seen es)) no_changes) trees_of) (under_statics st (places_json (seen es))) (sym (node_trees st es) ∙ h)
+  where
+    by : (q : Option Trees) → change_of (node_data (Some st) es) ≡ option_map (λ ts. write (node st ts)) q → option_map (node st) q ≡ None → change_of (node_data (Some st) es) ≡ None
+    by None is none = is
+    by (Some ts) is none = cc
+
+pub part_of : (p : Part) (st : Option (List (List ℕ))) (es : List (KeyValue PlaceValue)) → st ≡ statics_of p → es ≡ places_of p → part_data p ≡ node_data st es
+part_of p st es s e = part_is p ∙ ap (λ o. node_data o (places_of p)) (sym s) ∙ ap (node_data st) (sym e)

@@ -5,6 +5,7 @@ mod fault;
 mod held;
 pub mod laws;
 mod merging;
+mod number;
 mod plan;
 mod take;
 pub use fault::MergeFault;

@@ -1,6 +1,5 @@
 //! A held tree, and what a node that was sent makes of it.
-ghost use Rattle.std.specs.Prelude.{◌≡◌, Some, None, true, OnOk, OnErr};
-ghost use Rattle.std.specs.Option.{is_some};
+ghost use Rattle.std.specs.Prelude.{◌≡◌, Some, None, IfSome, OnOk, OnErr};
 ghost use Rattle.std.specs.Result.{IsErrOf};
 ghost use Rattle.client_merge.specs.declared.fault.MergeFault.TheVariants as MergeFault;
 ghost use Rattle.diff_tree.specs.Parts.{part_data};
@@ -28,10 +27,10 @@ pub fn merge(alloc: Global, held: &mut HeldNode, part: Part) -> Result<(), Merge
     Ok(())
 }
 
+// The tree after a change that fits it.
 #[cycle(apply)]
 fn apply(alloc: Global, change: HeldChange, held: HeldNode) -> HeldNode
-    requires { is_some (merged (held_tree held) (planned change)) ≡ true }
-    ensures { merged (held_tree held) (planned change) ≡ Some (held_tree result) }
+    ensures { IfSome (merged (held_tree held) (planned change)) (λ t. t ≡ held_tree result) }
 {
     match change {
         HeldChange::Write(node) => node,
@@ -46,18 +45,15 @@ fn apply(alloc: Global, change: HeldChange, held: HeldNode) -> HeldNode
 }
 
 #[cycle(apply)]
-fn apply_all(
-    alloc: Global,
-    changes: Seq<PlaceChange>,
-    places: Seq<HeldNode>,
-) -> Seq<HeldNode>
-    requires { is_some (merged_all (held_trees places) (planned_all changes)) ≡ true }
-    ensures { merged_all (held_trees places) (planned_all changes) ≡ Some (held_trees result) }
+fn apply_all(alloc: Global, changes: Seq<PlaceChange>, places: Seq<HeldNode>) -> Seq<HeldNode>
+    ensures { IfSome (merged_all (held_trees places) (planned_all changes)) (λ ts. ts ≡ held_trees result) }
 {
     let mut places = places.into_vec();
     'changes: for PlaceChange { place, change } in changes.into_vec() {
-        let old = mem::replace(&mut places[place], HeldNode::Text(Text::new(alloc)));
-        places[place] = apply(alloc, change, old);
+        if place < places.len() {
+            let old = mem::replace(&mut places[place], HeldNode::Text(Text::new(alloc)));
+            places[place] = apply(alloc, change, old);
+        }
     }
     Seq::from_vec(places)
 }

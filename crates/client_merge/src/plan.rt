@@ -1,17 +1,15 @@
 //! What a node that was sent changes in a held tree, found before anything is changed.
-ghost use Rattle.std.specs.Prelude.{◌≡◌, ◌^◌, ◌<◌, ℕ, List, None, true, option_map, IfOk};
-ghost use Rattle.std.specs.Option.{is_some, SomeIff};
+ghost use Rattle.std.specs.Prelude.{◌≡◌, ℕ, List, None, true, option_map, IfOk};
+ghost use Rattle.std.specs.Option.{is_some};
 ghost use Rattle.std.specs.Result.{IsErrOf};
-ghost use Rattle.std.specs.List.{list_all};
-ghost use Rattle.std.specs.Char.{is_ascii_digit};
 ghost use Rattle.client_merge.specs.declared.fault.MergeFault.TheVariants as MergeFault;
 ghost use Rattle.diff_tree.specs.Parts.{part_data, place_data, node_data};
 ghost use Rattle.diff_tree.specs.Tree.{node, inner};
-ghost use Rattle.diff_tree.specs.Grammar.{is_place};
-ghost use Rattle.client_merge.specs.Reading.{number_of, change_of, merge_data};
+ghost use Rattle.client_merge.specs.Reading.{change_of, merge_data};
 ghost use Rattle.client_merge.specs.Held.{held_tree, held_trees};
 ghost use Rattle.client_merge.specs.Planned.{planned, planned_all, merged, merged_all};
 
+use crate::number::place_below;
 use crate::take::take_node;
 use crate::{HeldNode, MergeFault};
 use diff_tree::{Part, PlaceValue};
@@ -85,41 +83,9 @@ fn plan_places(
 {
     let mut changes = Seq::new(alloc);
     'places: for KeyValue { key, value } in places.into_vec() {
-        let Some(place) = place_number(key.as_str()) else {
-            return Err(MergeFault::BadFrame);
-        };
-        let Some(node) = held.as_slice().get(place) else {
-            return Err(MergeFault::BadFrame);
-        };
-        let change = plan_value(alloc, value, node)?;
+        let place = place_below(key.as_str(), held.len())?;
+        let change = plan_value(alloc, value, &held.as_slice()[place])?;
         changes.push(PlaceChange { place, change })?;
     }
     Ok(changes)
-}
-
-/// The number of a place, by its key.
-pub(crate) fn place_number(key: &str) -> Option<usize>
-    ensures { SomeIff result ((is_place key.now ≡ true) × (number_of key.now < 2 ^ 64)) (number_of key.now) }
-{
-    if !is_place(key) {
-        return None;
-    }
-    key.parse::<usize>().ok()
-}
-
-// Whether a key is a decimal with no zero in front.
-fn is_place(key: &str) -> bool
-    ensures { result ≡ is_place key.now }
-{
-    match key.as_bytes() {
-        [] => false,
-        [b'0', rest @ ..] => rest.is_empty(),
-        digits => are_digits(digits),
-    }
-}
-
-fn are_digits(bytes: &[u8]) -> bool
-    ensures { result ≡ list_all is_ascii_digit bytes.now }
-{
-    bytes.iter().all(|byte| byte.is_ascii_digit())
 }

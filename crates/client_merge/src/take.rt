@@ -1,14 +1,13 @@
 //! Whole trees, taken from nodes as they are sent.
-ghost use Rattle.std.specs.Prelude.{◌≡◌, ◌<◌, ◌≤◌, Some, None, true, length, codes, IfOk, OnErr};
+ghost use Rattle.std.specs.Prelude.{◌≡◌, Some, None, length, codes, IfOk};
 ghost use Rattle.std.specs.Result.{IsErrOf};
 ghost use Rattle.client_merge.specs.declared.fault.MergeFault.TheVariants as MergeFault;
 ghost use Rattle.diff_tree.specs.Parts.{part_data, place_data, node_data};
-ghost use Rattle.diff_tree.specs.Grammar.{is_place};
 ghost use Rattle.text_core.specs.Keyed.{without_key};
-ghost use Rattle.client_merge.specs.Reading.{number_of, tree_of};
+ghost use Rattle.client_merge.specs.Reading.{tree_of};
 ghost use Rattle.client_merge.specs.Held.{held_tree, held_trees, trees_in, blank_trees};
 
-use crate::plan::place_number;
+use crate::number::place_below;
 use crate::{HeldNode, MergeFault};
 use diff_tree::{Part, PlaceValue};
 use std::alloc::Global;
@@ -85,17 +84,6 @@ fn count_places(places: &ByKey<PlaceValue>) -> usize
         places.len().saturating_sub(1)
     } else {
         places.len()
-    }
-}
-
-// The number of a place, which is below this one.
-fn place_below(key: &str, count: usize) -> Result<usize, MergeFault>
-    ensures ok { IfOk result (λ n. (n ≡ number_of key.now) × (is_place key.now ≡ true) × (n < count)) }
-    ensures bad { OnErr result ((is_place key.now ≡ true) → count ≤ number_of key.now) }
-{
-    match place_number(key) {
-        Some(place) if place < count => Ok(place),
-        _ => Err(MergeFault::BadFrame),
     }
 }
 
