@@ -76,3 +76,7 @@ pub applied_all : (ts now : Trees) (all : Option Changes) (rest : List PlaceChan
 applied_all ts now all rest a none = if_some (merged_all ts all) (λ us. us ≡ now) (λ some us is.
     let both : Some us ≡ Some now = sym is ∙ applied_last ts all now (subst (λ (l : List PlaceChange). Applied ts all l now) none (a some)) in
     cc)
+
+pub some_node : (st : List (List ℕ)) (o : Option Trees) → is_some o ≡ true → is_some (option_map (node st) o) ≡ true
+some_node st None h = h
+some_node st (Some ts) h = h

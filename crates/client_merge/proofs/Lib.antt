@@ -5,3 +5,4 @@ pub mod Views
 pub mod Loops
 pub mod Numbers
 pub mod Applies
+pub mod Shows
