@@ -10,6 +10,8 @@ mod number;
 mod plan;
 mod showing;
 mod take;
+#[cfg(test)]
+mod tests;
 
 pub use client::Client;
 pub use fault::MergeFault;
