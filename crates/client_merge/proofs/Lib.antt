@@ -6,3 +6,4 @@ pub mod Loops
 pub mod Numbers
 pub mod Applies
 pub mod Shows
+pub mod JsonBack

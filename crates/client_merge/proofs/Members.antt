@@ -30,7 +30,7 @@ use Rattle.client_merge.specs.Reading.{number_of, is_free, put_change, with_chan
 use Rattle.client_merge.specs.Planned.{Placed, added, gathered}
 use Rattle.client_merge.proofs.Changes.{free_none, free_put, Holds}
 
-abbrev s_key : List ℕ
+abbrev pub s_key : List ℕ
 s_key = codes "s"
 
 -- ---- keys of places
@@ -148,7 +148,7 @@ changes_chain (e ∷ es) cs = by (bytes_eq e.key (codes "s")) (changes_chain es)
 
 -- ---- `s`
 
-is_s : (l : List ℕ) (o : Ordering) → order s_key l ≡ o → bytes_eq l s_key ≡ is_eq o
+pub is_s : (l : List ℕ) (o : Ordering) → order s_key l ≡ o → bytes_eq l s_key ≡ is_eq o
 is_s l o is = sym (is_eq-slice_cmp l s_key) ∙ ap is_eq (nat_list_cmp_total.antisymm l s_key ∙ ap ordering_reverse is) ∙ by o
   where
     by : (o : Ordering) → is_eq (ordering_reverse o) ≡ is_eq o
