@@ -61,7 +61,7 @@ apply_step ts us n None ps cs here some = cc
 apply_step ts us n (Some c) ps cs here some = by (is_free n cs) refl
   where
     with_both : (t u : Tree) → is_free n cs ≡ true → tree_at n us ≡ Some t → merge_change t c ≡ Some u → Step ts us n (Some c) ps cs
-    with_both t u free at fits = record { one = c; old = t; new = u; is = refl; at = at; merges = fits; rest = next_free n c cs ps free; here = fits_here ts us n c cs t u free here at fits; }
+    with_both t u free at fits = record { one = c; old = t; new = u; is = refl; at = at; merges = fits; rest = next_free n c cs ps free; here = fits_here ts us n c cs t u free here at fits }
 
     with_old : (t : Tree) (q : Option Tree) → is_free n cs ≡ true → tree_at n us ≡ Some t → merge_change t c ≡ q → Step ts us n (Some c) ps cs
     with_old t (Some u) free at fits = with_both t u free at fits
@@ -90,7 +90,7 @@ plan_step ts us n (Some c) ps cs t free here at some = by (merge_change t c) ref
     by None fits s = cc
     by (Some u) fits s =
         let now = still ts us n cs t free here at in
-        record { one = c; old = t; new = u; is = refl; at = now; merges = fits; rest = next_free n c cs ps free; here = fits_here ts us n c cs t u free here now fits; }
+        record { one = c; old = t; new = u; is = refl; at = now; merges = fits; rest = next_free n c cs ps free; here = fits_here ts us n c cs t u free here now fits }
 
 pub plan_bad : (ts us : Trees) (n : ℕ) (o : Option Change) (ps : List Placed) (cs : Changes) (t : Tree) → merge_changes ts cs ≡ Some us → tree_at n ts ≡ Some t
     → and_then o (merge_change t) ≡ None → merged_all ts (gathered ((n, o) ∷ ps) cs) ≡ None

@@ -29,7 +29,7 @@ pub record Applied (ts : Trees) (all : Option Changes) (rest : List PlaceChange)
   pub here : merge_changes ts done ≡ Some now
 
 pub applied_first : (ts : Trees) (ps : List PlaceChange) → Applied ts (planned_all ps) ps ts
-applied_first ts ps = record { done = no_changes; whole = refl; here = merge_none ts; }
+applied_first ts ps = record { done = no_changes; whole = refl; here = merge_none ts }
 
 pub applied_step : (ts : Trees) (all : Option Changes) (p : PlaceChange) (rest : List PlaceChange) (now : Trees) (a : Applied ts all (p ∷ rest) now) → is_some (merged_all ts all) ≡ true
     → Step ts now (placed p).0 (placed p).1 (map placed rest) a.done
@@ -37,7 +37,7 @@ applied_step ts all p rest now a some = apply_step ts now (placed p).0 (placed p
 
 pub applied_on : (ts : Trees) (all : Option Changes) (p : PlaceChange) (rest : List PlaceChange) (now : Trees) (a : Applied ts all (p ∷ rest) now) (s : Step ts now (placed p).0 (placed p).1 (map placed rest) a.done)
     → Applied ts all rest (tree_set (placed p).0 s.new now)
-applied_on ts all p rest now a s = record { done = put_change (placed p).0 s.one a.done; whole = sym s.rest ∙ a.whole; here = s.here; }
+applied_on ts all p rest now a s = record { done = put_change (placed p).0 s.one a.done; whole = sym s.rest ∙ a.whole; here = s.here }
 
 pub applied_last : (ts : Trees) (all : Option Changes) (now : Trees) → Applied ts all [] now → merged_all ts all ≡ Some now
 applied_last ts all now a = ap (merged_all ts) (sym a.whole) ∙ a.here
@@ -66,7 +66,7 @@ pub record Planning (ts : Trees) (all : Option Changes) (rest : List (KeyValue P
   pub up : ascend (keys rest) ≡ true
 
 pub planning_first : (ts : Trees) (es : List (KeyValue PlaceValue)) → ascend (keys es) ≡ true → Planning ts (gathered (readings es) no_changes) es []
-planning_first ts es up = record { done = no_changes; now = ts; whole = refl; so_far = refl; here = merge_none ts; free = free_first es; up = up; }
+planning_first ts es up = record { done = no_changes; now = ts; whole = refl; so_far = refl; here = merge_none ts; free = free_first es; up = up }
 
 is_read : (e : KeyValue PlaceValue) → is_place e.key ≡ true → (reading e).1 ≡ change_of (place_data e.value)
 is_read e is = ap (λ (b : Bool). if b then change_of (place_data e.value) else None) is
@@ -127,7 +127,7 @@ pub record Taking (n : ℕ) (all : Option Changes) (rest : List (KeyValue PlaceV
   pub up : ascend (keys rest) ≡ true
 
 pub taking_first : (n : ℕ) (es : List (KeyValue PlaceValue)) → ascend (keys es) ≡ true → length (unstatic es) ≡ n → Taking n (gathered (readings (unstatic es)) no_changes) es (blank_trees n)
-taking_first n es up counted = record { done = no_changes; whole = refl; here = merge_none (blank_trees n); opens = tt; counted = omega arith; free = free_first es; up = up; }
+taking_first n es up counted = record { done = no_changes; whole = refl; here = merge_none (blank_trees n); opens = tt; counted = omega arith; free = free_first es; up = up }
 
 skipped : (e : KeyValue PlaceValue) (rest : List (KeyValue PlaceValue)) → bytes_eq e.key (codes "s") ≡ true → unstatic (e ∷ rest) ≡ unstatic rest
 skipped e rest is = ap (λ (b : Bool). if b then unstatic rest else e ∷ unstatic rest) is

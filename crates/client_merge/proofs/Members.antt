@@ -255,7 +255,7 @@ under_statics st ms =
     ap (λ (o : Option Data). and_then (changes_in (put s_key d ms) no_changes) (node_change o)) (get_member-put s_key d ms)
     ∙ ap (λ (o : Option Changes). and_then o (node_change (Some d))) (skip_s d ms no_changes)
     ∙ then_ext (changes_in ms no_changes) (node_change (Some d)) (λ cs. option_map (λ ts. write (node st ts)) (trees_of cs))
-      (λ cs. ap (λ (o : Option (List (List ℕ))). option_both (λ st ts. write (node st ts)) o (trees_of cs)) (texts_back st) ∙ some_left (trees_of cs))
+    (λ cs. ap (λ (o : Option (List (List ℕ))). option_both (λ st ts. write (node st ts)) o (trees_of cs)) (texts_back st) ∙ some_left (trees_of cs))
     ∙ outside (changes_in ms no_changes)
   where
     some_left : (q : Option Trees) → option_both (λ st ts. write (node st ts)) (Some st) q ≡ option_map (λ ts. write (node st ts)) q

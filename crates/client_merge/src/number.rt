@@ -14,7 +14,11 @@ pub(crate) fn place_below(key: &str, count: usize) -> Result<usize, MergeFault>
     ensures bad { OnErr result (is_place key.now ≡ true → count ≤ number_of key.now) }
 {
     match place_number(key) {
-        Some(place) => if place < count { Ok(place) } else { Err(MergeFault::BadFrame) },
+        Some(place) => if place < count {
+            Ok(place)
+        } else {
+            Err(MergeFault::BadFrame)
+        },
         None => Err(MergeFault::BadFrame),
     }
 }

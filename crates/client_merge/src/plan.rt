@@ -58,11 +58,7 @@ pub(crate) fn plan_node(
 }
 
 #[cycle(plan)]
-fn plan_value(
-    alloc: Global,
-    value: PlaceValue,
-    held: &HeldNode,
-) -> Result<HeldChange, MergeFault>
+fn plan_value(alloc: Global, value: PlaceValue, held: &HeldNode) -> Result<HeldChange, MergeFault>
     ensures ok { IfOk result (λ c. (planned c ≡ change_of (place_data value)) × (is_some (merged (held_tree held.now) (planned c)) ≡ true)) }
     ensures bad { IsErrOf result MergeFault.BadFrame → merge_data (held_tree held.now) (place_data value) ≡ None }
 {

@@ -27,11 +27,7 @@ fn show_onto(held: &HeldNode, page: &mut Text) -> Result<(), OutOfMemory>
 }
 
 #[cycle(show)]
-fn show_places(
-    places: &Seq<HeldNode>,
-    statics: &Names,
-    page: &mut Text,
-) -> Result<(), OutOfMemory>
+fn show_places(places: &Seq<HeldNode>, statics: &Names, page: &mut Text) -> Result<(), OutOfMemory>
     ensures { OnOk result (page.new ≡ page.old ++ weave statics.now (pages_of (held_trees places.now))) }
 {
     let places = places.as_slice();

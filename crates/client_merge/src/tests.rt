@@ -23,17 +23,42 @@ fn a_client_takes_frames(rt: HostRuntime) -> Result<(), Fail> {
     for (whole, text, fault, page) in [
         (false, "{}", Some(MergeFault::BadFrame), "no page"),
         (true, "{\"0\":\"a\"}", Some(MergeFault::BadFrame), "no page"),
-        (true, "{\"0\":\"a\",\"1\":\"b\",\"s\":[\"<\",\"|\",\">\"]}", None, "<a|b>"),
+        (
+            true,
+            "{\"0\":\"a\",\"1\":\"b\",\"s\":[\"<\",\"|\",\">\"]}",
+            None,
+            "<a|b>",
+        ),
         (false, "{\"1\":\"c\"}", None, "<a|c>"),
         (false, "{\"7\":\"d\"}", Some(MergeFault::BadFrame), "<a|c>"),
-        (false, "{\"99999999999999999999999\":\"\"}", Some(MergeFault::BadFrame), "<a|c>"),
-        (false, "{\"0\":\"x\",\"1\":{\"0\":\"d\"}}", Some(MergeFault::BadFrame), "<a|c>"),
-        (false, "{\"1\":{\"0\":\"d\",\"s\":[\"(\",\")\"]}}", None, "<a|(d)>"),
+        (
+            false,
+            "{\"99999999999999999999999\":\"\"}",
+            Some(MergeFault::BadFrame),
+            "<a|c>",
+        ),
+        (
+            false,
+            "{\"0\":\"x\",\"1\":{\"0\":\"d\"}}",
+            Some(MergeFault::BadFrame),
+            "<a|c>",
+        ),
+        (
+            false,
+            "{\"1\":{\"0\":\"d\",\"s\":[\"(\",\")\"]}}",
+            None,
+            "<a|(d)>",
+        ),
         (false, "{\"1\":{\"0\":\"e\"}}", None, "<a|(e)>"),
         (false, "{\"0\":\"f\",\"1\":{}}", None, "<f|(e)>"),
         (false, "{\"1\":\"g\"}", None, "<f|g>"),
         (false, "{\"s\":[\"h\"]}", None, "h"),
-        (true, "{\"0\":{},\"s\":[\"\",\"\"]}", Some(MergeFault::BadFrame), "h"),
+        (
+            true,
+            "{\"0\":{},\"s\":[\"\",\"\"]}",
+            Some(MergeFault::BadFrame),
+            "h",
+        ),
     ] {
         let part = part(alloc, text)?;
         let result = if whole {

@@ -33,9 +33,9 @@ apply_all-changes-preserved-then-place-len t c =
     let steps = c.in-Some.ensures.steps in
     record {
       kept = λ some.
-        applied_one ts all c.in-Some.field-0 (into_iter_items c.next.new.self) hs c.replace-old.new.dest c.replace-old.result c.apply.result
-        (subst (λ (l : List PlaceChange). Applied ts all l (held_trees hs)) steps.0 (c.changes.invariant.kept some)) some
-        (c.replace-old.ensures.value ∙ c.index_mut.ensures.value ∙ ap (get_or hs c.in-Some.field-0.place) (sym c.replace-old.ensures.value)) c.apply.ensures;
+          applied_one ts all c.in-Some.field-0 (into_iter_items c.next.new.self) hs c.replace-old.new.dest c.replace-old.result c.apply.result
+          (subst (λ (l : List PlaceChange). Applied ts all l (held_trees hs)) steps.0 (c.changes.invariant.kept some)) some
+          (c.replace-old.ensures.value ∙ c.index_mut.ensures.value ∙ ap (get_or hs c.in-Some.field-0.place) (sym c.replace-old.ensures.value)) c.apply.ensures;
       counted = counted_on (into_iter_len c.changes.place-iterator) (into_iter_len c.next.new.self) (into_iter_items c.changes.place-iterator) c.in-Some.field-0 (into_iter_items c.next.new.self) c.changes.invariant.counted steps.0 steps.1;
     }
 
@@ -47,8 +47,8 @@ apply_all-changes-preserved-else-place-len t c =
     let steps = c.in-Some.ensures.steps in
     record {
       kept = λ some.
-        let there = applied_there ts all c.in-Some.field-0 (into_iter_items c.next.new.self) hs (subst (λ (l : List PlaceChange). Applied ts all l (held_trees hs)) steps.0 (c.changes.invariant.kept some)) some in
-        absurd (omega (arith, there, c.len.ensures, c.if-place-len.false));
+          let there = applied_there ts all c.in-Some.field-0 (into_iter_items c.next.new.self) hs (subst (λ (l : List PlaceChange). Applied ts all l (held_trees hs)) steps.0 (c.changes.invariant.kept some)) some in
+          absurd (omega (arith, there, c.len.ensures, c.if-place-len.false));
       counted = counted_on (into_iter_len c.changes.place-iterator) (into_iter_len c.next.new.self) (into_iter_items c.changes.place-iterator) c.in-Some.field-0 (into_iter_items c.next.new.self) c.changes.invariant.counted steps.0 steps.1;
     }
 
@@ -60,8 +60,8 @@ apply_all-changes-preserved-else-place-len-2 t c =
     let steps = c.in-Some.ensures.steps in
     record {
       kept = λ some.
-        let there = applied_there ts all c.in-Some.field-0 (into_iter_items c.next.new.self) hs (subst (λ (l : List PlaceChange). Applied ts all l (held_trees hs)) steps.0 (c.changes.invariant.kept some)) some in
-        absurd (omega (arith, there, c.len.ensures, c.if-place-len.false));
+          let there = applied_there ts all c.in-Some.field-0 (into_iter_items c.next.new.self) hs (subst (λ (l : List PlaceChange). Applied ts all l (held_trees hs)) steps.0 (c.changes.invariant.kept some)) some in
+          absurd (omega (arith, there, c.len.ensures, c.if-place-len.false));
       counted = counted_on (into_iter_len c.changes.place-iterator) (into_iter_len c.next.new.self) (into_iter_items c.changes.place-iterator) c.in-Some.field-0 (into_iter_items c.next.new.self) c.changes.invariant.counted steps.0 steps.1;
     }
 
@@ -73,8 +73,8 @@ apply_all-changes-preserved t c =
     let steps = c.in-Some.ensures.steps in
     record {
       kept = λ some.
-        let there = applied_there ts all c.in-Some.field-0 (into_iter_items c.next.new.self) hs (subst (λ (l : List PlaceChange). Applied ts all l (held_trees hs)) steps.0 (c.changes.invariant.kept some)) some in
-        absurd (omega (arith, there, c.len.ensures, c.if-place-len.false));
+          let there = applied_there ts all c.in-Some.field-0 (into_iter_items c.next.new.self) hs (subst (λ (l : List PlaceChange). Applied ts all l (held_trees hs)) steps.0 (c.changes.invariant.kept some)) some in
+          absurd (omega (arith, there, c.len.ensures, c.if-place-len.false));
       counted = counted_on (into_iter_len c.changes.place-iterator) (into_iter_len c.next.new.self) (into_iter_items c.changes.place-iterator) c.in-Some.field-0 (into_iter_items c.next.new.self) c.changes.invariant.counted steps.0 steps.1;
     }
 
@@ -85,7 +85,7 @@ apply_all-returns t c =
     let gives : ps ≡ c.into_vec-place-items.result.items = c.into_iter-place-iterator.ensures.into_iter_gives.0 in
     let start : merged_all (held_trees hs) (planned_all ps) ≡ merged_all (held_trees c.args.places) (planned_all c.args.changes)
     = ap (λ l. merged_all (held_trees l) (planned_all ps)) c.into_vec-places.ensures
-        ∙ ap (λ l. merged_all (held_trees c.args.places) (planned_all l)) (gives ∙ c.into_vec-place-items.ensures) in
+    ∙ ap (λ l. merged_all (held_trees c.args.places) (planned_all l)) (gives ∙ c.into_vec-place-items.ensures) in
     let all = applied_all (held_trees hs) (held_trees c.changes.places.items) (planned_all ps) (into_iter_items c.changes.place-iterator) c.changes.invariant.kept
     (none_left (into_iter_len c.changes.place-iterator) (into_iter_items c.changes.place-iterator) c.changes.invariant.counted c.in-None.ensures.steps.0) in
     subst (λ (l : List HeldNode). IfSome (merged_all (held_trees c.args.places) (planned_all c.args.changes)) (λ us. us ≡ held_trees l)) (sym c.from_vec.ensures)

@@ -85,7 +85,7 @@ plan_places-returns-in_err-place-clause-bad t c = λ bad st.
     let named : c.as_str.result.now ≡ e.key = c.as_str.ensures in
     let long : c.len.result ≡ count ts = c.len.ensures ∙ sym (count_held c.args.held.now) in
     ap (λ o. merged (node st ts) o) read ∙ node_merges st ts all ∙ ap (option_map (node st)) (plan_none ts all e rest made kept
-      (subst (λ m. is_place e.key ≡ true → m ≤ number_of e.key) long (subst (λ k. is_place k ≡ true → c.len.result ≤ number_of k) named c.in_err-place.ensures.bad)))
+    (subst (λ m. is_place e.key ≡ true → m ≤ number_of e.key) long (subst (λ k. is_place k ≡ true → c.len.result ≤ number_of k) named c.in_err-place.ensures.bad)))
 
 pub plan_places-returns-in_err-change-clause-bad : goal.plan_places-returns-in_err-change-clause-bad
 plan_places-returns-in_err-change-clause-bad t c = λ bad st.
@@ -106,7 +106,7 @@ plan_places-returns-in_err-change-clause-bad t c = λ bad st.
     let is : is_place e.key ≡ true = sym (ap is_place named) ∙ c.in_ok-place.ensures.ok.1 in
     let h = c.index-as_slice-place.result in
     let at : tree_at (number_of e.key) ts ≡ Some (held_tree h) = sym (ap (λ n. tree_at n ts) number)
-        ∙ held_at c.args.held.now c.in_ok-place.place h (subst (λ m. c.in_ok-place.place < m) c.len.ensures c.in_ok-place.ensures.ok.2) (c.index-as_slice-place.is ∙ ap (λ l. get_or l c.in_ok-place.place h) c.as_slice.ensures) in
+    ∙ held_at c.args.held.now c.in_ok-place.place h (subst (λ m. c.in_ok-place.place < m) c.len.ensures c.in_ok-place.ensures.ok.2) (c.index-as_slice-place.is ∙ ap (λ l. get_or l c.in_ok-place.place h) c.as_slice.ensures) in
     ap (λ o. merged (node st ts) o) read ∙ node_merges st ts all ∙ ap (option_map (node st)) (plan_unfit ts all e rest made (held_tree h) kept is at (c.in_err-change.ensures.bad (search rules)))
 
 pub plan_places-places-preserved : goal.plan_places-places-preserved
@@ -128,10 +128,10 @@ plan_places-places-preserved t c =
     let is : is_place e.key ≡ true = sym (ap is_place named) ∙ c.in_ok-place.ensures.ok.1 in
     let h = c.index-as_slice-place.result in
     let at : tree_at (number_of e.key) ts ≡ Some (held_tree h) = sym (ap (λ n. tree_at n ts) number)
-        ∙ held_at c.args.held.now c.in_ok-place.place h (subst (λ m. c.in_ok-place.place < m) c.len.ensures c.in_ok-place.ensures.ok.2) (c.index-as_slice-place.is ∙ ap (λ l. get_or l c.in_ok-place.place h) c.as_slice.ensures) in
+    ∙ held_at c.args.held.now c.in_ok-place.place h (subst (λ m. c.in_ok-place.place < m) c.len.ensures c.in_ok-place.ensures.ok.2) (c.index-as_slice-place.is ∙ ap (λ l. get_or l c.in_ok-place.place h) c.as_slice.ensures) in
     let below : c.in_ok-place.place < c.len.result = c.in_ok-place.ensures.ok.2 in
     let small : number_of e.key < 2 ^ 64 = subst (λ m. m < 2 ^ 64) number (let fits = c.len.type_inv in omega arith) in
-    let one : PlaceChange = record { place = c.in_ok-place.place; change = c.in_ok-change.change; } in
+    let one : PlaceChange = record { place = c.in_ok-place.place; change = c.in_ok-change.change } in
     let planned_is : planned c.in_ok-change.change ≡ change_of (place_data e.value) = c.in_ok-change.ensures.ok.0 in
     let same : placed one ≡ (number_of e.key, change_of (place_data e.value)) = placed-is one ∙ ap (λ n. (n, planned c.in_ok-change.change)) number ∙ ap (λ o. (number_of e.key, o)) planned_is in
     let some : is_some (and_then (change_of (place_data e.value)) (merge_change (held_tree h))) ≡ true = sym (ap (λ o. is_some (merged (held_tree h) o)) planned_is) ∙ c.in_ok-change.ensures.ok.1 in
