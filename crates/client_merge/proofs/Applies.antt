@@ -1,9 +1,8 @@
 -- One planned change, applied.
-use Rattle.std.proofs.Common.{◌≡◌, ◌<◌, ◌+◌, ℕ, zero, suc, ◌∷◌, [], ◌∙◌, List, length, get_or, slice_set, sym, ap, subst, refl, arith, true, false, Option, Some, None, option_map, is_some, map, IfSome}
-use Rattle.diff_tree.specs.Tree.{Tree, node, Trees, Change, write, inner, Changes, merge_change, merge_changes}
-use Rattle.diff_tree.specs.Client.{and_then}
+use Rattle.std.proofs.Common.{◌≡◌, ◌<◌, ◌+◌, ℕ, ◌∷◌, [], ◌∙◌, List, length, get_or, slice_set, sym, ap, subst, refl, arith, true, Option, Some, None, option_map, is_some, map, IfSome}
+use Rattle.diff_tree.specs.Tree.{Tree, node, Trees, Change, inner, Changes, merge_change}
 use Rattle.client_merge.specs.Held.{held_tree, held_trees}
-use Rattle.client_merge.specs.Planned.{planned, planned_all, merged, merged_all, placed}
+use Rattle.client_merge.specs.Planned.{planned, merged, merged_all, placed}
 use Rattle.client_merge.specs.declared.held.HeldNode.{HeldNode}
 use Rattle.client_merge.specs.declared.plan.PlaceChange.{PlaceChange, out-PlaceChange}
 use Rattle.client_merge.proofs.Changes.{tree_at, tree_set}

@@ -1,5 +1,5 @@
 -- Changes with one more, merged into trees.
-use Rattle.std.proofs.Common.{◌≡◌, ◌≢◌, ℕ, zero, suc, ◌+◌, ◌<◌, ◌≤◌, List, [], ◌∷◌, Option, Some, None, option_map, Bool, true, false, ◌&&◌, refl, sym, ap, ◌∙◌, arith, is_some, subst}
+use Rattle.std.proofs.Common.{◌≡◌, ℕ, zero, suc, ◌<◌, ◌≤◌, [], Option, Some, None, option_map, Bool, true, false, ◌&&◌, refl, sym, ap, ◌∙◌, arith, is_some, subst}
 use Rattle.diff_tree.specs.Tree.{Tree, text, Trees, no_trees, tree, count, Change, write, inner, rows, batch, Changes, no_changes, skip, change, option_both, merge_change, merge_changes, opened}
 use Rattle.diff_tree.specs.Client.{and_then}
 use Rattle.client_merge.specs.Reading.{is_free, put_change, trees_of, written}

@@ -1,10 +1,10 @@
 -- Changes gathered place by place.
-use Rattle.std.proofs.Common.{◌≡◌, ℕ, zero, suc, ◌+◌, ◌<◌, ◌≤◌, List, [], ◌∷◌, length, Option, Some, None, option_map, Bool, true, false, if◌then◌else◌, refl, sym, ap, ◌∙◌, subst, arith, is_some}
-use Rattle.diff_tree.specs.Tree.{Tree, Trees, count, Change, write, inner, Changes, merge_change, merge_changes}
+use Rattle.std.proofs.Common.{◌≡◌, ℕ, suc, ◌+◌, ◌≤◌, List, [], ◌∷◌, length, Option, Some, None, option_map, Bool, true, false, if◌then◌else◌, refl, sym, ap, ◌∙◌, subst, arith, is_some}
+use Rattle.diff_tree.specs.Tree.{Tree, Trees, count, Change, Changes, merge_change, merge_changes}
 use Rattle.diff_tree.specs.Client.{and_then}
-use Rattle.client_merge.specs.Reading.{is_free, put_change, with_change, trees_of, written}
+use Rattle.client_merge.specs.Reading.{is_free, put_change, trees_of, written}
 use Rattle.client_merge.specs.Laws.{reach}
-use Rattle.client_merge.specs.Planned.{Placed, added, gathered, merged_all}
+use Rattle.client_merge.specs.Planned.{Placed, gathered, merged_all}
 use Rattle.client_merge.proofs.Changes.{tree_at, tree_set, merge_at, at_out, at_is, at_none, merge_put, Holds, holds, count_kept, at_kept, writes, writes_put, reach_put, all_written, no_more_written, not_written, trees_whole}
 
 pub next_free : (n : ℕ) (c : Change) (cs : Changes) (ps : List Placed) → is_free n cs ≡ true → gathered ((n, Some c) ∷ ps) cs ≡ gathered ps (put_change n c cs)

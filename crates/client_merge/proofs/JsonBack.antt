@@ -1,5 +1,5 @@
 -- The JSON of trees and of changes, read back.
-use Rattle.std.proofs.Common.{◌≡◌, ◌⊎◌, inl, inr, ℕ, zero, suc, ◌+◌, ◌<◌, ◌≤◌, ◌^◌, ◌==◌, List, [], ◌∷◌, length, get_or, Option, Some, None, option_map, Bool, true, false, if◌then◌else◌, refl, sym, ap, ◌∙◌, subst, arith, codes, true≢false, Ordering, Less, Equal, Greater, nat_cmp}
+use Rattle.std.proofs.Common.{◌≡◌, ◌⊎◌, inl, inr, ℕ, zero, suc, ◌+◌, ◌<◌, ◌≤◌, ◌^◌, ◌==◌, List, [], ◌∷◌, length, get_or, Option, Some, None, option_map, Bool, true, false, if◌then◌else◌, refl, sym, ap, ◌∙◌, subst, arith, codes, true≢false, Ordering, Less, Equal, Greater}
 use Rattle.std.specs.Ordering.{match_ordering}
 use Rattle.std.specs.List.{list_all}
 use Rattle.std.specs.Char.{is_ascii_digit}
@@ -8,7 +8,7 @@ use Rattle.std.specs.Fmt.{decimal}
 use Rattle.std.proofs.lemmas.Map.Lookups.{exact_bytes}
 use Rattle.std.proofs.lemmas.Fmt.{digits_value-decimal, digits_decimal, decimal_digit, first_decimal, decimal_injective}
 use Rattle.std.proofs.lemmas.Bool.Decides.{eqb_tells}
-use Rattle.serde_json.specs.Data.{Data, string, array, object, Members, no_members, member, put}
+use Rattle.serde_json.specs.Data.{Data, Members, no_members, member, put}
 use Rattle.serde_json.specs.Find.{get_member}
 use Rattle.serde_json.proofs.Views.{get_member-put_other}
 use Rattle.text_core.proofs.Keyed.{order}
@@ -16,11 +16,11 @@ use Rattle.text_core.proofs.Decimals.{own}
 use Rattle.diff_tree.specs.Tree.{Tree, text, number, node, list, stream, held, Trees, no_trees, tree, count, Change, write, inner, rows, batch, Changes, no_changes, skip, change, merge_change, merge_changes, option_both}
 use Rattle.diff_tree.specs.Client.{and_then}
 use Rattle.diff_tree.specs.Grammar.{is_place}
-use Rattle.diff_tree.specs.Spelling.{tree_json, trees_json, change_json, changes_json, texts_json}
-use Rattle.client_merge.specs.Reading.{number_of, is_free, put_change, with_change, trees_of, node_change, change_of, changes_in, written, tree_of}
+use Rattle.diff_tree.specs.Spelling.{tree_json, trees_json, change_json, changes_json}
+use Rattle.client_merge.specs.Reading.{number_of, is_free, put_change, with_change, trees_of, node_change, change_of, changes_in}
 use Rattle.client_merge.specs.Laws.{IsSmall, AreSmall, ChangeIsSmall, ChangesAreSmall, reach}
 use Rattle.client_merge.proofs.Changes.{free_none, free_put, free_same, put_swap, merge_none, Holds}
-use Rattle.client_merge.proofs.Members.{s_key, is_s, then_ext, then_none, under_statics, written_all}
+use Rattle.client_merge.proofs.Members.{s_key, is_s, then_ext, then_none, under_statics}
 
 -- ---- keys
 

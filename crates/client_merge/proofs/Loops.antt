@@ -1,23 +1,22 @@
 -- What the loops over places keep.
-use Rattle.std.proofs.Common.{◌≡◌, ◌⊎◌, inl, inr, ℕ, zero, suc, ◌+◌, ◌<◌, ◌≤◌, ◌^◌, List, [], ◌∷◌, ◌++◌, length, map, Option, Some, None, option_map, Bool, true, false, if◌then◌else◌, refl, sym, ap, ◌∙◌, subst, arith, is_some, codes, true≢false}
+use Rattle.std.proofs.Common.{◌≡◌, ℕ, suc, ◌+◌, ◌<◌, ◌≤◌, ◌^◌, List, [], ◌∷◌, ◌++◌, length, map, Option, Some, None, Bool, true, false, if◌then◌else◌, refl, sym, ap, ◌∙◌, arith, is_some, codes}
 use Rattle.std.specs.Str.{bytes_eq}
 use Rattle.std.proofs.lemmas.List.{map-append}
 use Rattle.text_core.specs.declared.by_key.KeyValue.{KeyValue}
 use Rattle.text_core.specs.Keyed.{is_before, ascend, keys}
 use Rattle.text_core.proofs.Keyed.{both_of}
-use Rattle.diff_tree.specs.Tree.{Tree, text, node, Trees, count, Change, write, inner, rows, batch, Changes, no_changes, merge_change, merge_changes, opened}
+use Rattle.diff_tree.specs.Tree.{Tree, Trees, count, Change, write, inner, rows, batch, Changes, no_changes, merge_change, merge_changes, opened}
 use Rattle.diff_tree.specs.Client.{and_then}
 use Rattle.diff_tree.specs.Grammar.{is_place}
 use Rattle.diff_tree.specs.Parts.{place_data}
 use Rattle.diff_tree.specs.declared.part.PlaceValue.{PlaceValue}
 use Rattle.client_merge.specs.Reading.{number_of, is_free, put_change, with_change, trees_of, change_of, written, tree_of}
-use Rattle.client_merge.specs.Held.{held_tree, held_trees, blank_trees}
-use Rattle.client_merge.specs.Planned.{Placed, added, gathered, planned, placed, planned_all, merged_all}
+use Rattle.client_merge.specs.Held.{held_tree, blank_trees}
+use Rattle.client_merge.specs.Planned.{Placed, added, gathered, placed, planned_all, merged_all}
 use Rattle.client_merge.specs.declared.held.HeldNode.{HeldNode}
-use Rattle.client_merge.specs.declared.plan.HeldChange.{HeldChange}
 use Rattle.client_merge.specs.declared.plan.PlaceChange.{PlaceChange}
-use Rattle.client_merge.proofs.Changes.{tree_at, tree_set, merge_at, at_some, merge_none, merge_put, Holds, holds, count_kept, writes, writes_put, AllOpen, open_put, fill, count_blank}
-use Rattle.client_merge.proofs.Gathered.{Step, next_free, dead, apply_step, plan_step, plan_bad, plan_out, take_far, take_bad, fits_here}
+use Rattle.client_merge.proofs.Changes.{tree_at, tree_set, at_some, merge_none, holds, count_kept, writes, writes_put, AllOpen, open_put, fill, count_blank}
+use Rattle.client_merge.proofs.Gathered.{Step, next_free, apply_step, plan_step, plan_bad, plan_out, take_far, take_bad, fits_here}
 use Rattle.client_merge.proofs.Members.{AllFree, free_first, free_on, reading, readings, unstatic}
 use Rattle.client_merge.proofs.Views.{open_held}
 

@@ -1,30 +1,30 @@
 -- Nodes as they are sent, read place by place.
-use Rattle.std.proofs.Common.{◌≡◌, ◌⊎◌, inl, inr, ℕ, zero, suc, ◌+◌, ◌<◌, ◌≤◌, ◌^◌, ◌==◌, List, [], ◌∷◌, length, get_or, map, Option, Some, None, option_map, Bool, true, false, if◌then◌else◌, refl, sym, ap, ◌∙◌, subst, arith, is_some, codes, true≢false, Ordering, Less, Equal, Greater, nat_cmp}
+use Rattle.std.proofs.Common.{◌≡◌, ◌⊎◌, inl, inr, ℕ, suc, ◌<◌, ◌^◌, ◌==◌, List, [], ◌∷◌, length, get_or, Option, Some, None, option_map, Bool, true, false, if◌then◌else◌, refl, sym, ap, ◌∙◌, subst, arith, is_some, codes, true≢false, Ordering, Less, Equal, Greater}
 use Rattle.std.specs.Ordering.{is_lt, is_eq, ordering_reverse, match_ordering}
 use Rattle.std.specs.List.{list_all}
 use Rattle.std.specs.Char.{is_ascii_digit}
 use Rattle.std.specs.Str.{bytes_eq}
 use Rattle.std.specs.Fmt.{decimal}
-use Rattle.std.specs.Cmp.Lexicographic.{slice_cmp, nat_list_cmp_total}
+use Rattle.std.specs.Cmp.Lexicographic.{nat_list_cmp_total}
 use Rattle.std.proofs.lemmas.Map.Text.{is_eq-slice_cmp}
 use Rattle.std.proofs.lemmas.Map.Lookups.{exact_bytes}
 use Rattle.std.proofs.lemmas.Fmt.{decimal-digits_value}
 use Rattle.std.proofs.lemmas.Bool.Decides.{eqb_tells}
-use Rattle.serde_json.specs.Data.{Data, string, array, object, Items, no_items, item, Members, no_members, member, put}
+use Rattle.serde_json.specs.Data.{Data, array, object, Members, no_members, member, put}
 use Rattle.serde_json.specs.Find.{get_member}
 use Rattle.serde_json.proofs.Views.{get_member-put, get_member-put_other}
 use Rattle.text_core.specs.declared.by_key.KeyValue.{KeyValue}
-use Rattle.text_core.specs.Keyed.{is_before, ascend, keys, on_value, lookup, without_key}
+use Rattle.text_core.specs.Keyed.{is_before, ascend, keys, lookup, without_key}
 use Rattle.text_core.proofs.Keyed.{order, both_of}
 use Rattle.text_core.proofs.Decimals.{own}
-use Rattle.diff_tree.specs.Tree.{Tree, text, node, Trees, Change, write, inner, Changes, no_changes, option_both}
+use Rattle.diff_tree.specs.Tree.{Tree, node, Trees, Change, write, inner, Changes, no_changes, option_both}
 use Rattle.diff_tree.specs.Client.{and_then}
 use Rattle.diff_tree.specs.Spelling.{texts_json}
 use Rattle.diff_tree.specs.Grammar.{is_place}
-use Rattle.diff_tree.specs.Parts.{part_data, place_data, part_step, place_step, places_json, with_statics, seen, node_data, statics_of, places_of}
-use Rattle.diff_tree.specs.declared.part.Part.{Part, out-Part}
+use Rattle.diff_tree.specs.Parts.{part_data, place_data, part_step, place_step, places_json, seen, node_data, statics_of, places_of}
+use Rattle.diff_tree.specs.declared.part.Part.{Part}
 use Rattle.diff_tree.specs.declared.part.PlaceValue.{PlaceValue, out-PlaceValue}
-use Rattle.diff_tree.specs.declared.part.PlaceValue.TheOpen.{Part-F, PlaceValue-F}
+use Rattle.diff_tree.specs.declared.part.PlaceValue.TheOpen.{PlaceValue-F}
 use Rattle.diff_tree.specs.declared.part.PlaceValue.TheFolds.{fold_out-Part, fold_out-PlaceValue, map-PlaceValue}
 use Rattle.client_merge.specs.Reading.{number_of, is_free, put_change, with_change, trees_of, texts_in, texts_of, node_change, change_of, changes_in, written, tree_of}
 use Rattle.client_merge.specs.Planned.{Placed, added, gathered}

@@ -1,5 +1,5 @@
 -- Statics and values by turns, one after the other.
-use Rattle.std.proofs.Common.{◌≡◌, ℕ, zero, suc, ◌+◌, ◌<◌, ◌≤◌, List, [], ◌∷◌, ◌++◌, length, get_or, drop, map, refl, sym, ap, ◌∙◌, arith, append_assoc, append-nil, Result, Ok, Err, OnOk}
+use Rattle.std.proofs.Common.{◌≡◌, ℕ, zero, suc, ◌+◌, ◌<◌, List, [], ◌∷◌, ◌++◌, length, get_or, refl, sym, ap, ◌∙◌, arith, append_assoc, Result, Ok, Err, OnOk}
 use Rattle.diff_tree.specs.Tree.{weave}
 use Rattle.client_merge.specs.Held.{held_tree, held_trees, page_of, pages_of}
 use Rattle.client_merge.specs.declared.held.HeldNode.{HeldNode}

@@ -1,5 +1,5 @@
 -- Held trees and planned changes, seen.
-use Rattle.std.proofs.Common.{◌≡◌, ℕ, zero, suc, ◌+◌, ◌<◌, ◌≤◌, List, [], ◌∷◌, ◌++◌, length, map, get_or, slice_set, Option, Some, None, option_map, Bool, true, false, refl, sym, ap, ◌∙◌, subst, arith}
+use Rattle.std.proofs.Common.{◌≡◌, ℕ, zero, suc, ◌+◌, ◌<◌, List, [], ◌∷◌, ◌++◌, length, map, get_or, slice_set, Option, Some, option_map, refl, sym, ap, ◌∙◌, subst, arith}
 use Rattle.diff_tree.specs.Tree.{Tree, text, node, Trees, no_trees, tree, count, opened, opened_all, Change, write, inner}
 use Rattle.client_merge.specs.Held.{trees_from, held_step, held_tree, held_trees, blank_trees}
 use Rattle.client_merge.specs.Planned.{Placed, change_step, placed_step, planned, placed, planned_all}
@@ -11,8 +11,7 @@ use Rattle.client_merge.specs.declared.held.HeldNode.TheViews as node_views
 use Rattle.client_merge.specs.declared.held.HeldNode.TheVariants as node_variants
 use Rattle.client_merge.specs.declared.held.HeldNode.TheVariants.{rolls-Text, rolls-Node}
 use Rattle.client_merge.specs.declared.plan.HeldChange.TheVariants as change_variants
-use Rattle.client_merge.specs.declared.plan.HeldChange.{HeldChange}
-use Rattle.client_merge.specs.declared.plan.HeldChange.TheOpen.{HeldChange-F, PlaceChange-F}
+use Rattle.client_merge.specs.declared.plan.HeldChange.TheOpen.{HeldChange-F}
 use Rattle.client_merge.specs.declared.plan.HeldChange.TheFolds.{fold-roll-HeldChange, fold_out-PlaceChange}
 use Rattle.client_merge.specs.declared.plan.HeldChange.TheViews as change_views
 use Rattle.client_merge.specs.declared.plan.HeldChange.TheVariants.{rolls-Write, rolls-Inner}

@@ -1,5 +1,5 @@
 -- How the JSON of trees and of changes is read.
-use Rattle.std.specs.Prelude.{◌≡◌, ◌<◌, ◌^◌, ℕ, suc, List, Option, Some, None, Bool, true, false, ◌&&◌}
+use Rattle.std.specs.Prelude.{◌≡◌, ◌<◌, ◌^◌, ℕ, suc, Some}
 use Rattle.serde_json.specs.Data.{object}
 use Rattle.diff_tree.specs.Tree.{Tree, text, node, Trees, no_trees, tree, count, Change, write, inner, Changes, no_changes, skip, change, merge_changes}
 use Rattle.diff_tree.specs.Spelling.{tree_json, changes_json}

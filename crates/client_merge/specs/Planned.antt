@@ -1,5 +1,5 @@
 -- What a planned change of a held tree stands for.
-use Rattle.std.specs.Prelude.{ℕ, List, [], ◌∷◌, map, Option, Some, None, option_map}
+use Rattle.std.specs.Prelude.{ℕ, List, [], ◌∷◌, map, Option, Some, option_map}
 use Rattle.diff_tree.specs.Tree.{Tree, Change, write, inner, Changes, no_changes, Trees, merge_change, merge_changes}
 use Rattle.diff_tree.specs.Client.{and_then}
 use Rattle.client_merge.specs.Reading.{with_change}

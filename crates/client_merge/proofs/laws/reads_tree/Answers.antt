@@ -1,4 +1,4 @@
-use Rattle.std.proofs.Common.{◌≡◌, Option, ap}
+use Rattle.std.proofs.Common.{Option, ap}
 use Rattle.diff_tree.specs.Tree.{Change}
 use Rattle.diff_tree.specs.Client.{and_then}
 use Rattle.client_merge.specs.Reading.{written}

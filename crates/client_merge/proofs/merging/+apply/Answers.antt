@@ -1,14 +1,14 @@
-use Rattle.std.proofs.Common.{rules, ◌≡◌, ◌<◌, ◌≤◌, ◌∷◌, ◌∙◌, List, length, slice_set, get_or, sym, ap, subst, refl, arith, true, false, Option, Some, option_map, is_some, IfSome}
+use Rattle.std.proofs.Common.{◌≡◌, ◌∙◌, List, get_or, sym, ap, subst, arith, Option, option_map, IfSome}
 use Rattle.std.specs.Vec.Iter.{into_iter_items, into_iter_len}
-use Rattle.diff_tree.specs.Tree.{Tree, node, Trees, Change, write, inner, Changes, merge_change}
+use Rattle.diff_tree.specs.Tree.{Tree, node, Trees}
 use Rattle.client_merge.specs.Held.{held_tree, held_trees}
-use Rattle.client_merge.specs.Planned.{planned, planned_all, merged, merged_all, placed}
+use Rattle.client_merge.specs.Planned.{planned, planned_all, merged, merged_all}
 use Rattle.client_merge.specs.declared.held.HeldNode.{HeldNode}
 use Rattle.client_merge.specs.declared.held.HeldNode.TheViews as nodes
 use Rattle.client_merge.specs.declared.plan.PlaceChange.{PlaceChange}
 use Rattle.client_merge.proofs.Views.{open_held, held-Node, planned-Write, planned-Inner}
-use Rattle.client_merge.proofs.Loops.{Applied, applied_first, applied_last}
-use Rattle.client_merge.proofs.Applies.{node_merges, node_if, if_some, applied_one, applied_there, counted_on, none_left, applied_all}
+use Rattle.client_merge.proofs.Loops.{Applied}
+use Rattle.client_merge.proofs.Applies.{node_merges, node_if, applied_one, applied_there, counted_on, none_left, applied_all}
 use Rattle.client_merge.proofs.merging.+apply.Goals as goal
 
 pub apply-returns-in-Write : goal.apply-returns-in-Write

@@ -1,4 +1,4 @@
-use Rattle.std.proofs.Common.{rules, ◌≡◌, ◌∙◌, sym, arith, true}
+use Rattle.std.proofs.Common.{◌≡◌, ◌∙◌, sym, true}
 use Rattle.diff_tree.specs.Grammar.{is_place}
 use Rattle.client_merge.proofs.Numbers.{parsed, not_parsed}
 use Rattle.client_merge.proofs.number.place_number.Goals as goal

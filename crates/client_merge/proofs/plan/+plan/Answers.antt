@@ -1,21 +1,21 @@
-use Rattle.std.proofs.Common.{rules, ◌≡◌, ◌<◌, ◌≤◌, ◌^◌, ◌∷◌, [], ◌++◌, ◌∙◌, List, ℕ, length, get_or, sym, ap, subst, refl, arith, true, false, Option, Some, None, option_map, is_some}
+use Rattle.std.proofs.Common.{rules, ◌≡◌, ◌<◌, ◌≤◌, ◌^◌, ◌∷◌, [], ◌∙◌, List, get_or, sym, ap, subst, refl, arith, true, Option, Some, None, option_map, is_some}
 use Rattle.std.specs.Vec.Iter.{into_iter_items, into_iter_len}
 use Rattle.text_core.specs.declared.by_key.KeyValue.{KeyValue}
 use Rattle.text_core.specs.Keyed.{keys, ascend}
-use Rattle.diff_tree.specs.Tree.{Tree, text, node, inner, write, Trees, Change, Changes, no_changes, count, merge_change}
+use Rattle.diff_tree.specs.Tree.{text, node, inner, Changes, no_changes, count, merge_change}
 use Rattle.diff_tree.specs.Client.{and_then}
 use Rattle.diff_tree.specs.Grammar.{is_place}
-use Rattle.diff_tree.specs.Parts.{part_data, place_data, node_data, statics_of, places_of}
+use Rattle.diff_tree.specs.Parts.{part_data, place_data, node_data}
 use Rattle.diff_tree.specs.declared.part.PlaceValue.{PlaceValue}
-use Rattle.client_merge.specs.Reading.{number_of, change_of, tree_of, merge_data}
+use Rattle.client_merge.specs.Reading.{number_of, change_of, merge_data}
 use Rattle.client_merge.specs.Held.{held_tree, held_trees}
 use Rattle.client_merge.specs.Planned.{gathered, planned, planned_all, merged, merged_all, placed}
 use Rattle.client_merge.specs.declared.plan.HeldChange.TheViews as change_views
 use Rattle.client_merge.specs.declared.plan.PlaceChange.{PlaceChange}
 use Rattle.client_merge.proofs.Changes.{tree_at}
 use Rattle.client_merge.proofs.Members.{readings, inner_is, inner_only, unwritten_change, part_of}
-use Rattle.client_merge.proofs.Views.{open_held, held-Text, held-Node, held_at, count_held, planned-Write, planned-Inner, placed-is}
-use Rattle.client_merge.proofs.Loops.{Planning, planning_first, plan_none, plan_unfit, plan_on, plan_last, writes_it}
+use Rattle.client_merge.proofs.Views.{held-Text, held-Node, held_at, count_held, planned-Inner, placed-is}
+use Rattle.client_merge.proofs.Loops.{Planning, planning_first, plan_none, plan_unfit, plan_on, plan_last}
 use Rattle.client_merge.proofs.Applies.{counted_on, none_left, node_merges, some_node}
 use Rattle.client_merge.proofs.plan.+plan.Goals as goal
 

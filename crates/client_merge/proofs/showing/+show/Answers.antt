@@ -1,5 +1,5 @@
-use Rattle.std.proofs.Common.{rules, ◌≡◌, ◌<◌, ◌≤◌, ◌+◌, ◌++◌, ◌∙◌, [], List, ℕ, length, get_or, sym, ap, refl, arith, OnOk}
-use Rattle.client_merge.proofs.Shows.{left, shows_on, shows_all, on_ok}
+use Rattle.std.proofs.Common.{◌≡◌, ◌∙◌, length, refl, arith}
+use Rattle.client_merge.proofs.Shows.{shows_on, shows_all, on_ok}
 use Rattle.client_merge.proofs.showing.+show.Goals as goal
 
 pub show_places-places-init : goal.show_places-places-init

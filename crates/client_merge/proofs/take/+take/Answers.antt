@@ -1,20 +1,19 @@
-use Rattle.std.proofs.Common.{rules, ◌≡◌, ◌<◌, ◌≤◌, ◌^◌, ◌∷◌, [], ◌∙◌, List, length, sym, ap, subst, refl, arith, true, false, Option, Some, None, option_map, codes, IfOk}
+use Rattle.std.proofs.Common.{rules, ◌≡◌, ◌<◌, ◌≤◌, ◌^◌, ◌∷◌, [], ◌∙◌, List, length, sym, ap, subst, arith, true, false, Option, Some, option_map, codes}
 use Rattle.std.specs.Vec.Iter.{into_iter_items, into_iter_len}
 use Rattle.std.specs.Str.{bytes_eq}
 use Rattle.text_core.specs.declared.by_key.KeyValue.{KeyValue}
 use Rattle.text_core.specs.Keyed.{keys, ascend, without_key}
-use Rattle.diff_tree.specs.Tree.{Tree, node, Trees, Changes, no_changes, count}
+use Rattle.diff_tree.specs.Tree.{node, Changes, no_changes}
 use Rattle.diff_tree.specs.Client.{and_then}
 use Rattle.diff_tree.specs.Grammar.{is_place}
-use Rattle.diff_tree.specs.Parts.{part_data, place_data, node_data, statics_of, places_of}
 use Rattle.diff_tree.specs.declared.part.PlaceValue.{PlaceValue}
-use Rattle.client_merge.specs.Reading.{number_of, tree_of, trees_of}
-use Rattle.client_merge.specs.Held.{held_tree, held_trees, trees_in, blank_trees}
+use Rattle.client_merge.specs.Reading.{number_of, trees_of}
+use Rattle.client_merge.specs.Held.{held_tree, held_trees, trees_in}
 use Rattle.client_merge.specs.Planned.{gathered}
 use Rattle.client_merge.proofs.Members.{readings, unstatic, node_trees, inner_unwritten, without_s, trees_are}
 use Rattle.client_merge.proofs.Changes.{tree_set}
 use Rattle.client_merge.proofs.Views.{held-Node, trees_set, count_held}
-use Rattle.client_merge.proofs.Loops.{Taking, taking_first, take_skip, take_none, take_unfit, take_on, take_last, taking_count}
+use Rattle.client_merge.proofs.Loops.{Taking, taking_first, take_none, take_unfit, take_on, take_last, taking_count}
 use Rattle.client_merge.proofs.Applies.{counted_on, none_left}
 use Rattle.client_merge.proofs.take.+take.Goals as goal
 

@@ -1,6 +1,6 @@
-use Rattle.std.proofs.Common.{◌≡◌, ◌∙◌, [], ap}
+use Rattle.std.proofs.Common.{◌∙◌, ap}
 use Rattle.diff_tree.specs.Tree.{text}
-use Rattle.client_merge.specs.Held.{held_tree, held_trees}
+use Rattle.client_merge.specs.Held.{held_trees}
 use Rattle.client_merge.proofs.Views.{held-Text, blank_more}
 use Rattle.client_merge.proofs.take.blanks.Goals as goal
 

@@ -1,5 +1,5 @@
-use Rattle.std.proofs.Common.{◌≡◌, ◌∙◌, sym, arith, true, false, codes, is_some, suc, length}
-use Rattle.text_core.specs.Keyed.{lookup, without_key}
+use Rattle.std.proofs.Common.{◌≡◌, ◌∙◌, sym, arith, true, false, codes, is_some}
+use Rattle.text_core.specs.Keyed.{lookup}
 use Rattle.client_merge.proofs.Members.{one_less, none_less}
 use Rattle.client_merge.proofs.take.count_places.Goals as goal
 
