@@ -1,0 +1,5 @@
+pub mod Reading
+pub mod Held
+pub mod Planned
+pub mod Page
+pub mod Laws

@@ -1,0 +1,15 @@
+//! Trees as a client holds them.
+use text_core::{Names, Seq, Text};
+
+/// A tree as a client holds it.
+#[cycle(held)]
+#[derive(Debug, Drop)]
+pub enum HeldNode {
+    /// A text.
+    Text(Text),
+    /// A node: its statics, and what stands at the places between them.
+    Node {
+        statics: Names,
+        places: Seq<HeldNode>,
+    },
+}
