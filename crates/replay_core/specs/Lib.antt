@@ -1,3 +1,4 @@
+pub mod Spoken
 pub mod Player
 pub mod Output
 pub mod Ends

@@ -1,6 +1,7 @@
 //! Replay scripts: what a script does, and what it writes.
 #![tactic(auto)]
 
+mod message;
 mod player;
 mod run;
 
