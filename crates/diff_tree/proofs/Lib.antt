@@ -3,7 +3,7 @@ pub mod Closed
 pub mod Levels
 pub mod Batches
 pub mod Looks
-mod Order
+pub mod Order
 mod Statics
 pub mod Stored
 pub mod ReadsBack

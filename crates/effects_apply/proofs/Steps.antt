@@ -1,5 +1,5 @@
 -- What each effect leaves.
-use Rattle.std.proofs.Common.{◌≡◌, ℕ, ◌+◌, ◌<◌, ◌≤◌, List, [], ◌∷◌, ◌++◌, length, map, Bool, true, false, Result, Ok, Err, IsErr, is_ok, if◌then◌else◌, refl, sym, ap, ◌∙◌, nat_lt, arith, append_assoc, ℤ, Option}
+use Rattle.std.proofs.Common.{subst, ◌≡◌, ℕ, ◌+◌, ◌<◌, ◌≤◌, List, [], ◌∷◌, ◌++◌, length, map, Bool, true, false, Result, Ok, Err, IsErr, is_ok, if◌then◌else◌, refl, sym, ap, ◌∙◌, nat_lt, arith, append_assoc, ℤ, Option}
 use Rattle.std.proofs.lemmas.List.{map-append, length-append}
 use Rattle.std.proofs.lemmas.Bool.{lt-ltb, le-ltb}
 use Rattle.std.specs.Ordering.{nat_cmp, match_ordering}
@@ -23,9 +23,10 @@ use Rattle.doc_model.specs.Evaluation.{Res}
 use Rattle.value_core.specs.Nesting.{depth_of}
 use Rattle.doc_model.specs.Calls.{has_slot}
 use Rattle.doc_model.specs.Effects.{Waiting, sent, inbox_limit, storable, sendable, position_of, limit_of, acting, is_kept_name, in_stream, batch_insert, insert_of, Applied, apply_effect}
-use Rattle.effects_apply.specs.declared.rest.Push.{Push}
+use Rattle.wire_v2.specs.declared.push.Push.{Push}
 use Rattle.effects_apply.specs.declared.rest.Rest.{Rest}
-use Rattle.effects_apply.specs.Applied.{action_view, push_view, rest_view, CountsFree, applied_view, Becomes}
+use Rattle.effects_apply.specs.Applied.{action_view, rest_view, CountsFree, applied_view, Becomes}
+use Rattle.wire_v2.specs.FrameData.{pushed_of}
 
 -- what a good result holds
 of_ok : {A E : Type 0} (r : Result A E) → is_ok r ≡ true → (a : A) × (r ≡ Ok a)
@@ -93,7 +94,12 @@ module _ (present : List (KeyValue Value)) (streams : List ℕ → Stream) (w : 
   pub pushes : (p : Push) (v : model.Value) (later : List Push) → sendable v ≡ Ok (json_view p.payload) → later ≡ r.pushed ++ p ∷ []
       → Becomes (Ok tt) (apply_effect (push_event p.name v) before) present w (record r { pushed = later })
   pushes p v later fits is =
-      (h, (streams, rw fits (ap (λ ps. Ok (before.0, record before.1 { pushed = ps })) (sym (ap (map push_view) is ∙ map-append push_view r.pushed (p ∷ []))))))
+      (h, (streams, rw fits (ap (λ ps. Ok (before.0, record before.1 { pushed = ps })) (sym (ap (map pushed_of) is ∙ map-append pushed_of r.pushed (p ∷ []))))))
+
+  pub pushes_named : (p : Push) (n : List ℕ) (v : model.Value) (later : List Push) → p.name ≡ n → sendable v ≡ Ok (json_view p.payload) → later ≡ r.pushed ++ p ∷ []
+      → Becomes (Ok tt) (apply_effect (push_event n v) before) present w (record r { pushed = later })
+  pushes_named p n v later named fits is =
+      subst (λ m. Becomes (Ok tt) (apply_effect (push_event m v) before) present w (record r { pushed = later })) named (pushes p v later fits is)
 
   pub sends : (v : Value) (d : Data) (later : List Value) (free : ℕ) → sendable (view v) ≡ Ok d → later ≡ r.sent ++ v ∷ [] → free + 1 ≡ r.free
       → Becomes (Ok tt) (apply_effect (send_self (view v)) before) present w (record r { sent = later; free = free })

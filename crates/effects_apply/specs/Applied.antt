@@ -9,14 +9,14 @@ use Rattle.value_core.specs.declared.value.Value.{Value}
 use Rattle.view_api.specs.Effect.{Effect}
 use Rattle.machine_api.specs.declared.machine.Action as asked
 use Rattle.machine_api.specs.declared.machine.Action.TheVariants.{Subscribe, Unsubscribe, Publish}
-use Rattle.diff_tree.specs.Spelling.{Pushed}
+use Rattle.wire_v2.specs.declared.push.Push.{Push}
+use Rattle.wire_v2.specs.FrameData.{pushed_of}
 use Rattle.doc_model.specs.Environment.{Stream}
 use Rattle.doc_model.specs.Evaluation.{Res}
 use Rattle.doc_model.specs.Effects as model
 use Rattle.doc_model.specs.Effects.{Action, to_subscribe, to_unsubscribe, to_publish, Waiting, sent, inbox_limit, Applied, apply_effect}
 use Rattle.effects_apply.specs.declared.fault.EffectFault.{EffectFault}
 use Rattle.effects_apply.specs.declared.fault.EffectFault.TheVariants.{Raised, OutOfMemory}
-use Rattle.effects_apply.specs.declared.rest.Push.{Push}
 use Rattle.effects_apply.specs.declared.rest.Rest.{Rest}
 
 -- what is asked of the outside
@@ -25,17 +25,13 @@ action_view (Subscribe topic generation) = to_subscribe topic generation
 action_view (Unsubscribe topic generation) = to_unsubscribe topic generation
 action_view (Publish topic value) = to_publish topic value
 
--- an event for the client
-abbrev pub push_view : Push → Pushed
-push_view p = (p.name, json_view p.payload)
-
 -- the process beside its assigns, where `w` waited in its inbox before the message
 abbrev pub rest_view : List Waiting → Rest → model.Rest
 rest_view w r = record {
   generation = r.generation;
   inbox = w ++ map (λ v. sent r.generation (view v)) r.sent;
   actions = map action_view r.actions;
-  pushed = map push_view r.pushed;
+  pushed = map pushed_of r.pushed;
 }
 
 -- what is free is what the inbox lacks of its limit
@@ -67,3 +63,9 @@ abbrev pub GivesJson : Result json.Value EffectFault → Res Data → Type 0
 GivesJson (Ok j) given = given ≡ Ok (json_view j)
 GivesJson (Err Raised) given = IsErr given
 GivesJson (Err OutOfMemory) given = Unit {0}
+
+-- an event of that name with the JSON value that is given, or a raise; want of memory is free
+abbrev pub GivesPush : Result Push EffectFault → List ℕ → Res Data → Type 0
+GivesPush (Ok p) name given = (p.name ≡ name) × (given ≡ Ok (json_view p.payload))
+GivesPush (Err Raised) name given = IsErr given
+GivesPush (Err OutOfMemory) name given = Unit {0}

@@ -9,8 +9,10 @@ ghost use Rattle.effects_apply.specs.declared.rest.Rest.{Rest as Beside};
 ghost use Rattle.effects_apply.specs.Applied.{Does, DoesBeside};
 
 use crate::fault::EffectFault;
-use crate::judge::{compact, is_kept, is_limit, is_position, is_storable, sendable_json};
-use crate::rest::{Push, Rest};
+use crate::judge::{
+    compact, is_kept, is_limit, is_position, is_storable, sendable_json, sendable_push,
+};
+use crate::rest::Rest;
 use assigns_track::Tracked;
 use machine_api::Action;
 use std::alloc::Global;
@@ -148,7 +150,7 @@ fn push_event(alloc: Global, name: Text, value: &Value, rest: &mut Rest) -> Resu
     ensures does { DoesBeside result (meant.push_event name (view value.now)) rest.old rest.new }
     ensures generation { OnOk result (rest.new.generation ≡ rest.old.generation) }
 {
-    let payload = sendable_json(alloc, value)?;
-    rest.pushed.push(Push { name, payload })?;
+    let push = sendable_push(alloc, name, value)?;
+    rest.pushed.push(push)?;
     Ok(())
 }

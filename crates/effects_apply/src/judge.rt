@@ -6,13 +6,14 @@ ghost use Rattle.value_core.specs.View.{view, values_view, assigns_view};
 ghost use Rattle.doc_model.specs.Calls.{has_slot, have_slot, hold_slot};
 ghost use Rattle.value_core.specs.Nesting.{depth_of};
 ghost use Rattle.doc_model.specs.Effects.{storable, sendable, position_of, limit_of, is_kept_name};
-ghost use Rattle.effects_apply.specs.Applied.{GivesJson};
+ghost use Rattle.effects_apply.specs.Applied.{GivesJson, GivesPush};
 
 use crate::fault::EffectFault;
 use serde_json::Value as Json;
 use std::alloc::Global;
-use text_core::{Bytes, OutOfMemory};
+use text_core::{Bytes, OutOfMemory, Text};
 use value_core::{Assigns, ToJsonFault, Value, Values, depth, to_json};
+use wire_v2::Push;
 
 // How many levels a value may have that is stored or sent.
 const MOST_LEVELS: u32 = 100;
@@ -105,6 +106,14 @@ pub(crate) fn sendable_json(alloc: Global, value: &Value) -> Result<Json, Effect
         Err(ToJsonFault::NoJson) => Err(EffectFault::Raised),
         Err(ToJsonFault::OutOfMemory) => Err(EffectFault::OutOfMemory),
     }
+}
+
+/// The event for the page's browser of this name, with the value. It raises where the value may not be sent.
+pub(crate) fn sendable_push(alloc: Global, name: Text, value: &Value) -> Result<Push, EffectFault>
+    ensures { GivesPush result name (sendable (view value.now)) }
+{
+    let payload = sendable_json(alloc, value)?;
+    Ok(Push { name, payload })
 }
 
 /// A JSON value as text with no space.

@@ -11,4 +11,4 @@ mod tests;
 pub use apply::apply_effects;
 pub use fault::EffectFault;
 pub use judge::holds_slot;
-pub use rest::{Push, Rest};
+pub use rest::Rest;

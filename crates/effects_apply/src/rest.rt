@@ -2,17 +2,10 @@
 ghost use Rattle.std.specs.Prelude.{◌≡◌, []};
 
 use machine_api::Actions;
-use serde_json::Value as Json;
 use std::alloc::Global;
-use text_core::{Seq, Text};
+use text_core::Seq;
 use value_core::Values;
-
-/// An event that the client is given.
-#[derive(Debug, Drop)]
-pub struct Push {
-    pub name: Text,
-    pub payload: Json,
-}
+use wire_v2::Pushes;
 
 /// What a message has done so far beside the assigns.
 #[derive(Debug, Drop)]
@@ -26,7 +19,7 @@ pub struct Rest {
     /// What is asked of the outside, in order.
     pub actions: Actions,
     /// The events for the client, in order.
-    pub pushed: Seq<Push>,
+    pub pushed: Pushes,
 }
 
 impl Rest {
