@@ -3,7 +3,7 @@ ghost use Rattle.std.specs.Prelude.{◌≡◌, Some, None, [], ◌==◌, if◌th
 ghost use Rattle.value_core.specs.View.{assigns_view};
 ghost use Rattle.view_api.specs.View.{Means};
 ghost use Rattle.view_script.specs.Script.{effects_of};
-ghost use Rattle.view_script.specs.Views.{script_of, begun, nothing_done, taken};
+ghost use Rattle.view_script.specs.Views.{script_of, begun, nothing_done, taken, meaning_of_script};
 
 use crate::script::effects_of;
 use bundle_files::{Events, Steps};
@@ -70,17 +70,7 @@ fn taken(
 }
 
 impl Views for ScriptViews {
-    ghost mounts = { λ s view _. begun s view };
-
-    ghost takes_params = { λ _ view _ _. nothing_done view };
-
-    ghost takes_event = { λ s owner event _ as'. taken s owner event as' };
-
-    ghost takes_info = { λ _ view _ _. nothing_done view };
-
-    ghost mounts_component = { λ _ _. None };
-
-    ghost updates_component = { λ _ _ _ _. None };
+    ghost meaning = { meaning_of_script };
 
     fn mount(&self, alloc: Global, view: u32, _params: &Value) -> Result<Effects, ViewFault> {
         begun(alloc, self, view)
