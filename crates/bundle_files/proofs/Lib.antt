@@ -2,4 +2,3 @@ pub mod Counts
 pub mod Manifests
 pub mod Held
 pub mod Texts
-pub mod Listed

@@ -1,8 +1,6 @@
 //! Bundles: folders with a manifest and a template.
 #![tactic(auto)]
 
-mod amount;
-mod assigned;
 mod bundle;
 mod fault;
 mod files;
@@ -11,6 +9,6 @@ mod manifest;
 #[cfg(test)]
 mod tests;
 
-pub use bundle::{Amount, Bundle, Events, Step, Steps};
+pub use bundle::{Bundle, Step, Steps};
 pub use fault::LoadFault;
 pub use loading::load;

@@ -2,7 +2,6 @@
 #![tactic(auto)]
 
 mod adapters;
-mod app;
 mod command;
 mod script;
 mod status;

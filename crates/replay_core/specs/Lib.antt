@@ -1,4 +1,5 @@
-pub mod Spoken
+pub mod Script
+pub mod Reading
 pub mod Player
 pub mod Output
 pub mod Ends

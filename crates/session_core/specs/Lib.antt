@@ -1,4 +1,8 @@
-pub mod Entries
+pub mod Message
+pub mod Frame
+pub mod Process
+pub mod Rendered
 pub mod Machine
-pub mod Handles
-pub mod Keeps
+pub mod Session
+pub mod Outcome
+pub mod Shown

@@ -1,6 +1,5 @@
-//! The entries of a journal, and what waits in an inbox.
+//! The entries of a journal.
 use text_core::{Bytes, Frames};
-use value_core::Value;
 
 /// An entry of a process's journal.
 #[derive(Debug, Drop)]
@@ -11,13 +10,4 @@ pub enum Entry {
     Handled(Frames),
     /// Memory was wanting at the message at the front, which gave these frames.
     Fell(Frames),
-}
-
-/// A message that waits.
-#[derive(Debug, Drop)]
-pub enum Waiting {
-    /// A text of the browser.
-    Heard(Bytes),
-    /// A value that the process sent itself, under the generation of then.
-    Sent { generation: u64, value: Value },
 }
