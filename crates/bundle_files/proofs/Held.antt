@@ -82,7 +82,7 @@ cond_same b c x y z e h = rw (e, h)
 same : (fs files : List (List ℕ × List ℕ)) → AllHold fs files → map (λ f. f.0) files ≡ map (λ f. f.0) fs → bundle_of files ≡ bundle_of fs
 same fs files a e = cond_same (length files == 2) (length fs == 2) _ _ None (ap (λ n. n == 2) (lengths fs files e))
     (and_then_same (bundle_with files) (bundle_with fs) _ _
-    (λ m. ap (option_and_then (bundle_from m.mount)) (smalls (m.template ++ codes ".html.heex") fs files a e))
+    (λ m. ap (option_and_then (bundle_from m.mount m.events)) (smalls (m.template ++ codes ".html.heex") fs files a e))
     (ap (option_and_then manifest_in) (smalls (codes "bundle.json") fs files a e)))
 
 -- what was judged of the files that were read holds of the folder's

@@ -2,3 +2,4 @@ pub mod Counts
 pub mod Manifests
 pub mod Held
 pub mod Texts
+pub mod Listed

@@ -1,4 +1,6 @@
 pub mod Fault
 pub mod Held
+pub mod Amount
+pub mod Assigned
 pub mod Manifest
 pub mod Bundle

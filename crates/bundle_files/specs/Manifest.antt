@@ -1,5 +1,6 @@
--- What a manifest says: `{"version":1,"views":[{"path":"/","template":T,"mount":[STEP,..]}]}`, where a step is
--- `["assign",NAME,E]`, and no other members. Of members with equal names the last holds.
+-- What a manifest says: `{"version":1,"views":[{"path":"/","template":T,"mount":[STEP,..],"events":{N:[STEP,..],..}}]}`,
+-- where a step is `["assign",NAME,E]`, and no other members; `events` may be absent. Mount gives numbers, and events
+-- keep to what it assigns. Of members with equal names the last holds.
 use Rattle.std.specs.Prelude.{ℕ, ℤ, pos, ◌+◌, ◌-◌, ◌^◌, List, [], ◌∷◌, length, codes, Bool, true, false, not, ◌&&◌, ◌||◌, ◌==◌, nat_le, nat_lt, if◌then◌else◌, Option, Some, None, option_map, option_and_then, is_none}
 use Rattle.std.specs.Option.{option_map_or}
 use Rattle.std.specs.List.{list_all}
@@ -10,9 +11,14 @@ use Rattle.serde_json.specs.Data.{Data, Items, no_items, item, Members, no_membe
 use Rattle.serde_json.specs.Read.{read}
 use Rattle.serde_json.specs.Find.{get, at, as_str, as_array, as_object, as_number, as_u64}
 use Rattle.slot_compile.specs.Name.{is_name}
+use Rattle.text_core.specs.declared.by_key.KeyValue.{KeyValue}
+use Rattle.text_core.specs.Keyed.{entry}
+use Rattle.bundle_files.specs.declared.bundle.Amount.{Amount}
 use Rattle.bundle_files.specs.declared.bundle.Step.{Step}
 use Rattle.bundle_files.specs.declared.bundle.Step.TheVariants as step
 use Rattle.bundle_files.specs.declared.manifest.Manifest.{Manifest}
+use Rattle.bundle_files.specs.Amount.{amount_in}
+use Rattle.bundle_files.specs.Assigned.{all_constant, events_keep_to}
 
 -- a small letter, a digit or `_`
 abbrev pub goes_on_template : ℕ → Bool
@@ -55,20 +61,13 @@ only_item d = if is_none (at 1 d) then at 0 d else None
 abbrev pub view_in : Data → Option Data
 view_in d = if (count_of d == 2) && is_one (option_and_then as_u64 (option_and_then as_number (get (codes "version") d))) then option_and_then only_item (get (codes "views") d) else None
 
--- one to twenty digits, whose number is below 2 ^ 63
-abbrev pub is_number : List ℕ → Bool
-is_number e = nat_lt 0 (length e) && nat_le (length e) 20 && list_all is_ascii_digit e && nat_le (digits_value 10 e) (2 ^ 63 - 1)
-
-abbrev pub number_in : List ℕ → Option ℤ
-number_in e = if is_number e then Some (pos (digits_value 10 e)) else None
-
-abbrev pub assign : List ℕ → ℤ → Step
+abbrev pub assign : List ℕ → Amount → Step
 assign name value = step.Assign name value
 
 abbrev pub assign_from : Option (List ℕ) → Option (List ℕ) → Option Step
 assign_from None e = None
 assign_from (Some n) None = None
-assign_from (Some n) (Some e) = if is_name n then option_map (assign n) (number_in e) else None
+assign_from (Some n) (Some e) = if is_name n then option_map (assign n) (amount_in e) else None
 
 -- `["assign",NAME,E]`
 abbrev pub step_in : Data → Option Step
@@ -81,14 +80,41 @@ steps_in (item d ds) = option_and_then (λ s. option_map (λ more. s ∷ more) (
 abbrev pub template_in : Data → Option (List ℕ)
 template_in d = option_and_then (λ t. if is_template_name t then Some t else None) (text_of (codes "template") d)
 
-abbrev pub manifest_from : Option (List ℕ) → Option (List Step) → Option Manifest
-manifest_from None s = None
-manifest_from (Some t) None = None
-manifest_from (Some t) (Some s) = Some (record { template = t; mount = s })
+-- the steps of a list
+abbrev pub steps_at : Data → Option (List Step)
+steps_at d = option_and_then steps_in (as_array d)
+
+-- the steps of each event, by its name
+abbrev pub events_in : Members → Option (List (KeyValue (List Step)))
+events_in no_members = Some []
+events_in (member name d ms) = option_and_then (λ steps. option_map (λ more. entry name steps ∷ more) (events_in ms)) (steps_at d)
+
+-- no events where the member is absent
+abbrev pub events_at : Option Data → Option (List (KeyValue (List Step)))
+events_at None = Some []
+events_at (Some d) = option_and_then events_in (as_object d)
+
+-- how many members a view with that member `events` has
+abbrev pub view_members : Option Data → ℕ
+view_members None = 3
+view_members (Some d) = 4
+
+-- the manifest, where mount gives numbers and events keep to what it assigns
+abbrev pub closed : Manifest → Option Manifest
+closed m = if all_constant m.mount && events_keep_to m.mount m.events then Some m else None
+
+abbrev pub manifest_from : List ℕ → Option (List Step) → Option (List (KeyValue (List Step))) → Option Manifest
+manifest_from t None es = None
+manifest_from t (Some s) None = None
+manifest_from t (Some s) (Some es) = closed (record { template = t; mount = s; events = es })
+
+-- the manifest of a template, with the handlers that a view has
+abbrev pub handlers_in : List ℕ → Data → Option Manifest
+handlers_in t d = manifest_from t (option_and_then steps_at (get (codes "mount") d)) (events_at (get (codes "events") d))
 
 -- what a view says
 abbrev pub entry_in : Data → Option Manifest
-entry_in d = if (count_of d == 3) && is_text (codes "/") (text_of (codes "path") d) then manifest_from (template_in d) (option_and_then steps_in (option_and_then as_array (get (codes "mount") d))) else None
+entry_in d = if (count_of d == view_members (get (codes "events") d)) && is_text (codes "/") (text_of (codes "path") d) then option_and_then (λ t. handlers_in t d) (template_in d) else None
 
 abbrev pub manifest_of : Data → Option Manifest
 manifest_of d = option_and_then entry_in (view_in d)

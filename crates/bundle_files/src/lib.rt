@@ -1,6 +1,8 @@
 //! Bundles: folders with a manifest and a template.
 #![tactic(auto)]
 
+mod amount;
+mod assigned;
 mod bundle;
 mod fault;
 mod files;
@@ -9,6 +11,6 @@ mod manifest;
 #[cfg(test)]
 mod tests;
 
-pub use bundle::{Bundle, Step, Steps};
+pub use bundle::{Amount, Bundle, Events, Step, Steps};
 pub use fault::LoadFault;
 pub use loading::load;

@@ -2,11 +2,12 @@
 ghost use Rattle.std.specs.Prelude.{◌≡◌, ◌≤◌, IfOk, IfSome, Some, None, Err};
 ghost use Rattle.text_core.specs.Outside.{Rose};
 ghost use Rattle.slot_compile.specs.Reading.{template_of};
-ghost use Rattle.bundle_files.specs.Bundle.{is_assigned, all_assigned, nodes_in, bundle_from, bundle_with, bundle_of};
+ghost use Rattle.bundle_files.specs.Bundle.{nodes_in, bundle_from, bundle_with, bundle_of};
 
+use crate::assigned::all_assigned;
 use crate::files::{read_files, small_file};
 use crate::manifest::{Manifest, read_manifest};
-use crate::{Bundle, LoadFault, Step, Steps};
+use crate::{Bundle, Events, LoadFault, Steps};
 use slot_compile::{Nodes, TemplateFault, compile, read_template};
 use std::alloc::Global;
 use std::str;
@@ -14,27 +15,6 @@ use text_core::{Bytes, Folder, OutOfMemory, Text};
 
 // How many files a folder may have that is read at all.
 const MOST_FILES: usize = 256;
-
-fn is_assigned(mount: &[Step], name: &str) -> bool
-    ensures { result ≡ is_assigned mount.now name.now }
-{
-    for step in mount {
-        let Step::Assign {
-            name: assigned,
-            value: _,
-        } = step;
-        if assigned.as_str() == name {
-            return true;
-        }
-    }
-    false
-}
-
-fn all_assigned(mount: &[Step], names: &[Text]) -> bool
-    ensures { result ≡ all_assigned mount.now names.now }
-{
-    names.iter().all(|name| is_assigned(mount, name.as_str()))
-}
 
 fn read_nodes(alloc: Global, text: &str) -> Result<Option<Nodes>, OutOfMemory>
     ensures { IfOk result (λ nodes. nodes ≡ template_of text.now) }
@@ -55,9 +35,14 @@ fn nodes_in(alloc: Global, bytes: &[u8]) -> Result<Option<Nodes>, OutOfMemory>
     }
 }
 
-// The bundle of what mount does and the source of the template.
-fn bundle_from(alloc: Global, mount: Steps, source: &[u8]) -> Result<Option<Bundle>, OutOfMemory>
-    ensures { IfOk result (λ bundle. bundle ≡ bundle_from mount source.now) }
+// The bundle of what a view does and the source of its template.
+fn bundle_from(
+    alloc: Global,
+    mount: Steps,
+    events: Events,
+    source: &[u8],
+) -> Result<Option<Bundle>, OutOfMemory>
+    ensures { IfOk result (λ bundle. bundle ≡ bundle_from mount events source.now) }
 {
     let Some(nodes) = nodes_in(alloc, source)? else {
         return Ok(None);
@@ -66,7 +51,11 @@ fn bundle_from(alloc: Global, mount: Steps, source: &[u8]) -> Result<Option<Bund
     if !all_assigned(mount.as_slice(), compiled.places()) {
         return Ok(None);
     }
-    Ok(Some(Bundle { compiled, mount }))
+    Ok(Some(Bundle {
+        compiled,
+        mount,
+        events,
+    }))
 }
 
 // The bundle of a manifest and the template that it names.
@@ -77,11 +66,15 @@ fn bundle_with(
 ) -> Result<Option<Bundle>, OutOfMemory>
     ensures { IfOk result (λ bundle. bundle ≡ bundle_with files.now manifest) }
 {
-    let Manifest { template, mount } = manifest;
+    let Manifest {
+        template,
+        mount,
+        events,
+    } = manifest;
     let mut name = template;
     name.push_str(".html.heex")?;
     match small_file(files, name.as_str()) {
-        Some(source) => bundle_from(alloc, mount, source),
+        Some(source) => bundle_from(alloc, mount, events, source),
         None => Ok(None),
     }
 }

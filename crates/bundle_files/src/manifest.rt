@@ -1,21 +1,24 @@
 //! The reader of manifests.
 ghost use Rattle.std.specs.Prelude.{◌≡◌, IfOk, option_map, option_and_then, codes};
 ghost use Rattle.std.specs.List.{list_all};
-ghost use Rattle.serde_json.specs.View.{view, items_view};
+ghost use Rattle.serde_json.specs.View.{view, items_view, members_view};
 ghost use Rattle.serde_json.specs.Find.{get, as_number, as_u64};
-ghost use Rattle.bundle_files.specs.Manifest.{goes_on_template, is_template_name, number_in, is_text, text_at, text_of, count_of, is_one, only_item, view_in, step_in, steps_in, template_in, entry_in, manifest_of, manifest_in};
+ghost use Rattle.bundle_files.specs.Manifest.{goes_on_template, is_template_name, is_text, text_at, text_of, count_of, is_one, only_item, view_in, step_in, steps_in, steps_at, events_in, events_at, view_members, closed, handlers_in, template_in, entry_in, manifest_of, manifest_in};
 
-use crate::{Step, Steps};
-use serde_json::Value;
+use crate::amount::amount_in;
+use crate::assigned::{all_constant, events_keep_to};
+use crate::{Events, Step, Steps};
+use serde_json::{Map, Value};
 use slot_compile::is_name;
 use std::alloc::Global;
-use text_core::{OutOfMemory, Seq, Text, read_decimal};
+use text_core::{ByKey, OutOfMemory, Seq, Text};
 
 /// What a manifest says of its one view.
 #[derive(Debug, Drop)]
 pub struct Manifest {
     pub template: Text,
     pub mount: Steps,
+    pub events: Events,
 }
 
 fn is_text(found: Option<&str>, text: &str) -> bool
@@ -130,15 +133,6 @@ fn template_in(value: &Value) -> Option<&str>
     Some(name)
 }
 
-fn number_in(text: &str) -> Option<i64>
-    ensures { result ≡ number_in text.now }
-{
-    match read_decimal(text, i64::MAX as u64) {
-        Some(n) => Some(n as i64),
-        None => None,
-    }
-}
-
 // A step `["assign",name,E]`.
 fn step_in(alloc: Global, value: &Value) -> Result<Option<Step>, OutOfMemory>
     ensures { IfOk result (λ s. s ≡ step_in (view value.now)) }
@@ -152,13 +146,13 @@ fn step_in(alloc: Global, value: &Value) -> Result<Option<Step>, OutOfMemory>
     let Some(name) = text_at(value, 1) else {
         return Ok(None);
     };
-    let Some(number) = text_at(value, 2) else {
+    let Some(amount) = text_at(value, 2) else {
         return Ok(None);
     };
     if !is_name(name) {
         return Ok(None);
     }
-    let Some(value) = number_in(number) else {
+    let Some(value) = amount_in(alloc, amount)? else {
         return Ok(None);
     };
     let name = Text::copy_of(alloc, name)?;
@@ -178,30 +172,103 @@ fn steps_in(alloc: Global, items: &[Value]) -> Result<Option<Steps>, OutOfMemory
     Ok(Some(steps))
 }
 
+// The steps of a list.
+fn steps_at(alloc: Global, value: &Value) -> Result<Option<Steps>, OutOfMemory>
+    ensures { IfOk result (λ s. s ≡ steps_at (view value.now)) }
+{
+    match value.as_array() {
+        Some(items) => steps_in(alloc, items.as_slice()),
+        None => Ok(None),
+    }
+}
+
+fn events_in(alloc: Global, members: &Map<String, Value>) -> Result<Option<Events>, OutOfMemory>
+    ensures { IfOk result (λ es. es ≡ events_in (members_view members.now.entries)) }
+{
+    let mut events = ByKey::new(alloc);
+    for (name, member) in members.iter() {
+        let Some(steps) = steps_at(alloc, member)? else {
+            return Ok(None);
+        };
+        events.push_last(Text::copy_of(alloc, name.as_str())?, steps)?;
+    }
+    Ok(Some(events))
+}
+
+fn events_at(alloc: Global, found: Option<&Value>) -> Result<Option<Events>, OutOfMemory>
+    ensures { IfOk result (λ es. es ≡ events_at (option_map (λ v. view v.now) found.entry)) }
+{
+    let Some(value) = found else {
+        return Ok(Some(ByKey::new(alloc)));
+    };
+    match value.as_object() {
+        Some(members) => events_in(alloc, members),
+        None => Ok(None),
+    }
+}
+
+// How many members a view with that member `events` has.
+fn view_members(events: Option<&Value>) -> usize
+    ensures { result ≡ view_members (option_map (λ v. view v.now) events.entry) }
+{
+    match events {
+        Some(_) => 4,
+        None => 3,
+    }
+}
+
+// The manifest, where mount gives numbers and events keep to what it assigns.
+fn closed(manifest: Manifest) -> Option<Manifest>
+    ensures { result ≡ closed manifest }
+{
+    if !all_constant(manifest.mount.as_slice()) {
+        return None;
+    }
+    if !events_keep_to(manifest.mount.as_slice(), manifest.events.as_slice()) {
+        return None;
+    }
+    Some(manifest)
+}
+
+// The manifest of a template, with the handlers that a view has.
+fn handlers_in(
+    alloc: Global,
+    template: &str,
+    value: &Value,
+) -> Result<Option<Manifest>, OutOfMemory>
+    ensures { IfOk result (λ m. m ≡ handlers_in template.now (view value.now)) }
+{
+    let Some(mount) = value.get("mount") else {
+        return Ok(None);
+    };
+    let Some(mount) = steps_at(alloc, mount)? else {
+        return Ok(None);
+    };
+    let Some(events) = events_at(alloc, value.get("events"))? else {
+        return Ok(None);
+    };
+    let template = Text::copy_of(alloc, template)?;
+    Ok(closed(Manifest {
+        template,
+        mount,
+        events,
+    }))
+}
+
 // What a view says.
 fn entry_in(alloc: Global, value: &Value) -> Result<Option<Manifest>, OutOfMemory>
     ensures { IfOk result (λ m. m ≡ entry_in (view value.now)) }
 {
-    if count_of(value) != 3 {
+    if count_of(value) != view_members(value.get("events")) {
         return Ok(None);
     }
     if !is_text(text_of(value, "path"), "/") {
         return Ok(None);
     }
-    let Some(template) = template_in(value) else {
-        return Ok(None);
-    };
-    let Some(mount) = value.get("mount") else {
-        return Ok(None);
-    };
-    let Some(items) = mount.as_array() else {
-        return Ok(None);
-    };
-    let Some(mount) = steps_in(alloc, items.as_slice())? else {
-        return Ok(None);
-    };
-    let template = Text::copy_of(alloc, template)?;
-    Ok(Some(Manifest { template, mount }))
+    match template_in(value) {
+        Some(template) => handlers_in(alloc, template, value),
+        None => Ok(None),
+    }
 }
 
 fn manifest_of(alloc: Global, value: &Value) -> Result<Option<Manifest>, OutOfMemory>

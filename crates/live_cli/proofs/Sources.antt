@@ -3,8 +3,8 @@ use Rattle.std.proofs.Common.{arith, refl, ◌∷◌, ◌≡◌, ◌<◌, ◌≤
 use Rattle.std.specs.Option.{IfSome}
 use Rattle.std.proofs.Math.Nat.{not-le_of_lt, le_of_lt}
 use Rattle.std.proofs.lemmas.List.{take-append-le}
-use Rattle.replay_core.specs.declared.script.Line.{Line}
-use Rattle.replay_core.specs.Script.{most_bytes, line_behind, SpellsScript, IsBadLine, IsFirstBad}
+use Rattle.script_core.specs.declared.script.Line.{Line}
+use Rattle.script_core.specs.Script.{most_bytes, line_behind, SpellsScript, IsBadLine, IsFirstBad}
 use Rattle.live_cli.specs.Script.{IsEnough, IsScriptOf, IsBadLineOf}
 
 append_none : (xs : List ℕ) → xs ++ [] ≡ xs

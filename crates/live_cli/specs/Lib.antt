@@ -1,4 +1,5 @@
 pub mod Words
 pub mod Exit
 pub mod Script
+pub mod App
 pub mod Offline

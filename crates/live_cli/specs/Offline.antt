@@ -3,12 +3,15 @@
 use Rattle.std.specs.Prelude.{◌≡◌, ◌⊎◌, ℕ, List, [], ◌∷◌, ◌++◌, codes, decimal, Option, Some, None, IfSome}
 use Rattle.bundle_files.specs.declared.bundle.Bundle.{Bundle}
 use Rattle.bundle_files.specs.Bundle.{bundle_of}
-use Rattle.session_core.specs.declared.app.App.{App}
-use Rattle.replay_core.specs.declared.script.Line.{Line}
+use Rattle.live_page.specs.declared.app.App.{App}
+use Rattle.view_script.specs.declared.views.ScriptViews.{ScriptViews}
+use Rattle.view_script.specs.Views.{meaning_of_script}
+use Rattle.script_core.specs.declared.script.Line.{Line}
 use Rattle.replay_core.specs.Output.{replay_output}
 use Rattle.replay_core.specs.Ends.{AddsAll, AddsFront}
 use Rattle.live_cli.specs.declared.status.Status.{Status}
 use Rattle.live_cli.specs.declared.status.Status.TheVariants as status
+use Rattle.live_cli.specs.App.{app_of}
 use Rattle.live_cli.specs.Script.{IsScriptOf, IsBadLineOf}
 
 -- the lines of the statuses Usage, Refused and BadScript
@@ -29,26 +32,22 @@ Says before after sink_rose line = AddsAll before after line ⊎ (sink_rose × A
 abbrev pub IsBundleOf : Option (List (List ℕ × List ℕ)) → Bundle → Type 0
 IsBundleOf files bundle = IfSome files (λ fs. bundle_of fs ≡ Some bundle)
 
--- the app of a bundle
-abbrev pub app_of : Bundle → App
-app_of bundle = record { compiled = bundle.compiled; mount = bundle.mount }
-
 -- how a run of a script over an app ends
-abbrev pub RunEnds : App → List Line → Option (List ℕ) → Option (List ℕ) → Type 0 → Status → Type 0
-RunEnds app script before after sink_rose status.Done = AddsAll before after (replay_output app script)
-RunEnds app script before after sink_rose status.WriteFault = sink_rose × AddsFront before after (replay_output app script)
-RunEnds app script before after sink_rose status.OutOfMemory = AddsFront before after (replay_output app script)
+abbrev pub RunEnds : App ScriptViews → List Line → Option (List ℕ) → Option (List ℕ) → Type 0 → Status → Type 0
+RunEnds app script before after sink_rose status.Done = AddsAll before after (replay_output meaning_of_script app script)
+RunEnds app script before after sink_rose status.WriteFault = sink_rose × AddsFront before after (replay_output meaning_of_script app script)
+RunEnds app script before after sink_rose status.OutOfMemory = AddsFront before after (replay_output meaning_of_script app script)
 RunEnds app script before after sink_rose status.Usage = ⊥
 RunEnds app script before after sink_rose status.Refused = ⊥
 RunEnds app script before after sink_rose status.BadScript = ⊥
 RunEnds app script before after sink_rose status.ReadFault = ⊥
 
 -- a script that the source's bytes spell ran over the app, and ended so
-abbrev pub Ran : App → Option (List ℕ) → Option (List ℕ) → Option (List ℕ) → Type 0 → Status → Type 0
+abbrev pub Ran : App ScriptViews → Option (List ℕ) → Option (List ℕ) → Option (List ℕ) → Type 0 → Status → Type 0
 Ran app text before after sink_rose status = (script : List Line) × IsScriptOf text script × RunEnds app script before after sink_rose status
 
 -- how reading the source and the run over an app end
-abbrev pub ScriptEnds : App → Option (List ℕ) → Option (List ℕ) → Option (List ℕ) → Type 0 → Type 0 → Status → Type 0
+abbrev pub ScriptEnds : App ScriptViews → Option (List ℕ) → Option (List ℕ) → Option (List ℕ) → Type 0 → Type 0 → Status → Type 0
 ScriptEnds app text before after source_rose sink_rose status.Done = Ran app text before after sink_rose status.Done
 ScriptEnds app text before after source_rose sink_rose status.WriteFault = Ran app text before after sink_rose status.WriteFault
 ScriptEnds app text before after source_rose sink_rose status.OutOfMemory = (after ≡ before) ⊎ Ran app text before after sink_rose status.OutOfMemory

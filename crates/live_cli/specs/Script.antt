@@ -1,7 +1,7 @@
 -- How much of a source is read as a script, and what script that is.
 use Rattle.std.specs.Prelude.{◌≡◌, ◌<◌, ◌⊎◌, ℕ, List, [], ◌++◌, length, Option, IfSome}
-use Rattle.replay_core.specs.declared.script.Line.{Line}
-use Rattle.replay_core.specs.Script.{most_bytes, SpellsScript, IsBadLine}
+use Rattle.script_core.specs.declared.script.Line.{Line}
+use Rattle.script_core.specs.Script.{most_bytes, SpellsScript, IsBadLine}
 
 -- what was read is all that there was, or a front of it that is longer than a script may be
 abbrev pub IsEnough : List ℕ → List ℕ → Type 0

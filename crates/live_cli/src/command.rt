@@ -1,14 +1,16 @@
 //! The commands that wait for nobody.
 ghost use Rattle.std.specs.Prelude.{◌≡◌, ◌↔◌, ◌≢◌, false, map, IfOk};
 ghost use Rattle.text_core.specs.Outside.{Rose};
-ghost use Rattle.live_cli.specs.Offline.{Says, RunEnds, ScriptEnds, FolderEnds, app_of, usage_line, script_line};
+ghost use Rattle.live_cli.specs.App.{app_of};
+ghost use Rattle.live_cli.specs.Offline.{Says, RunEnds, ScriptEnds, FolderEnds, usage_line, script_line};
 ghost use Rattle.live_cli.specs.Words.{is_replay};
 
+use crate::app::app_of;
 use crate::script::{SourceFault, read_source};
 use crate::status::Status;
 use bundle_files::{Bundle, LoadFault, load};
-use replay_core::{ReplayEnd, Script, replay};
-use session_core::App;
+use replay_core::{ReplayEnd, replay};
+use script_core::Script;
 use std::alloc::Global;
 use std::sync::Arc;
 use text_core::{Folder, OutOfMemory, Sink, Source, Text};
@@ -34,9 +36,11 @@ fn run<S: Sink>(alloc: Global, bundle: Bundle, script: Script, out: &mut S) -> S
     ensures { RunEnds (app_of bundle) script (S.written out.old) (S.written out.new)
         (Rose (S.failed out.old) (S.failed out.new)) result }
 {
-    let app = match Arc::new(alloc, App::build(bundle)) {
-        Ok(app) => app,
-        Err(_) => return Status::OutOfMemory,
+    let Ok(app) = app_of(alloc, bundle) else {
+        return Status::OutOfMemory;
+    };
+    let Ok(app) = Arc::new(alloc, app) else {
+        return Status::OutOfMemory;
     };
     match replay(alloc, &app, &script, out) {
         ReplayEnd::Done => Status::Done,

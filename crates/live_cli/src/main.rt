@@ -2,6 +2,7 @@
 #![tactic(auto)]
 
 mod adapters;
+mod app;
 mod command;
 mod script;
 mod status;

@@ -3,12 +3,9 @@ ghost use Rattle.std.specs.Prelude.{◌≡◌, ◌≤◌, ℕ, Err, IfOk, IfSome
 ghost use Rattle.text_core.specs.Outside.{Rose};
 ghost use Rattle.live_cli.specs.Script.{IsEnough, IsScriptOf, IsBadLineOf};
 
-use replay_core::{Script, ScriptFault, read_script};
+use script_core::{MOST_BYTES, Script, ScriptFault, read_script};
 use std::alloc::Global;
 use text_core::{Bytes, OutOfMemory, Source, Taken};
-
-// How many bytes a script has at most.
-const MOST_BYTES: usize = 16_777_216;
 
 /// Why a source gave no script.
 #[derive(Clone, Copy, Debug, PartialEq, Eq)]

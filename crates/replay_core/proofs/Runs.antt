@@ -9,9 +9,10 @@ use Rattle.text_core.specs.declared.outside.Wrote.{Wrote}
 use Rattle.text_core.specs.declared.outside.Wrote.TheVariants as wrote
 use Rattle.text_core.specs.Outside.{Writes, Rises, Rose}
 use Rattle.text_core.specs.Keyed.{lookup, without_key, with_key}
-use Rattle.session_core.specs.declared.app.App.{App}
+use Rattle.view_api.specs.Meaning.{HandlerMeaning}
+use Rattle.live_page.specs.declared.app.App.{App}
 use Rattle.replay_core.specs.declared.player.Player.{Player}
-use Rattle.replay_core.specs.declared.script.Line.{Line}
+use Rattle.script_core.specs.declared.script.Line.{Line}
 use Rattle.replay_core.specs.Output.{Board, changed, after_line, line_output, output_from, replay_output}
 use Rattle.replay_core.specs.Ends.{AddsAll, AddsFront}
 
@@ -27,15 +28,15 @@ without-absent k (e ∷ es) h =
     ap (λ b. cond b es (e ∷ without_key k es)) parts.0 ∙ ap (λ r. e ∷ r) (without-absent k es parts.1)
 
 -- a line of a browser that is not there changes nothing
-pub absent : (name key : List ℕ) (f : Player → Player) (board after : Board) → key ≡ name → None ≡ lookup key board → after ≡ without_key key board → after ≡ changed name f board
+pub absent : {V : Type 0} (name key : List ℕ) (f : Player V → Player V) (board after : Board V) → key ≡ name → None ≡ lookup key board → after ≡ without_key key board → after ≡ changed name f board
 absent name key f board after same none rest =
     rest ∙ without-absent key board none
-    ∙ ap (λ (o : Option Player). elim o [ None ↦ board | Some p ↦ with_key name (f p) (without_key name board) ]) (none ∙ ap (λ k. lookup k board) same)
+    ∙ ap (λ (o : Option (Player V)). elim o [ None ↦ board | Some p ↦ with_key name (f p) (without_key name board) ]) (none ∙ ap (λ k. lookup k board) same)
 
 -- what was written, where the sink tells, and what the lines that are left write are the whole output
-pub record Written (app : App) (script : List Line) (before now : Option (List ℕ)) (board : Board) (left : List Line) : Type 0 where
+pub record Written {V : Type 0} (meaning : V → HandlerMeaning) (app : App V) (script : List Line) (before now : Option (List ℕ)) (board : Board V) (left : List Line) : Type 0 where
   pub so_far : List ℕ
-  pub whole : replay_output app script ≡ so_far ++ output_from app board left
+  pub whole : replay_output meaning app script ≡ so_far ++ output_from meaning app board left
   pub told : IfSome before (λ bytes. now ≡ Some (bytes ++ so_far))
 
 joins : (before now after : Option (List ℕ)) (so_far text : List ℕ) → IfSome before (λ bytes. now ≡ Some (bytes ++ so_far)) → Writes now after text wrote.Whole → IfSome before (λ bytes. after ≡ Some (bytes ++ (so_far ++ text)))
@@ -43,14 +44,14 @@ joins None now after so_far text h w = tt
 joins (Some bytes) now after so_far text h w =
     subst (λ (o : Option (List ℕ)). IfSome o (λ b. after ≡ Some (b ++ text))) h w ∙ ap Some (append_assoc bytes so_far text)
 
-pub more : (app : App) (script : List Line) (before now after : Option (List ℕ)) (board next : Board) (lines : List Line) (i : ℕ) (l : Line) (text : List ℕ) → i < length lines → l ≡ get_or lines i l
-    → next ≡ after_line app board l → text ≡ line_output board l → Writes now after text wrote.Whole → Written app script before now board (drop i lines) → Written app script before after next (drop (i + 1) lines)
-more app script before now after board next lines i l text h is step said w so = record {
+pub more : {V : Type 0} (meaning : V → HandlerMeaning) (app : App V) (script : List Line) (before now after : Option (List ℕ)) (board next : Board V) (lines : List Line) (i : ℕ) (l : Line) (text : List ℕ) → i < length lines → l ≡ get_or lines i l
+    → next ≡ after_line meaning app board l → text ≡ line_output meaning board l → Writes now after text wrote.Whole → Written meaning app script before now board (drop i lines) → Written meaning app script before after next (drop (i + 1) lines)
+more meaning app script before now after board next lines i l text h is step said w so = record {
   so_far = so.so_far ++ text;
-  whole = so.whole ∙ ap (λ d. so.so_far ++ output_from app board d) (drop_more lines i l h ∙ ap (λ x. x ∷ drop (i + 1) lines) (sym is))
-      ∙ ap (λ t. so.so_far ++ (t ++ output_from app (after_line app board l) (drop (i + 1) lines))) (sym said)
-      ∙ ap (λ b. so.so_far ++ (text ++ output_from app b (drop (i + 1) lines))) (sym step)
-      ∙ sym (append_assoc so.so_far text (output_from app next (drop (i + 1) lines)));
+  whole = so.whole ∙ ap (λ d. so.so_far ++ output_from meaning app board d) (drop_more lines i l h ∙ ap (λ x. x ∷ drop (i + 1) lines) (sym is))
+      ∙ ap (λ t. so.so_far ++ (t ++ output_from meaning app (after_line meaning app board l) (drop (i + 1) lines))) (sym said)
+      ∙ ap (λ b. so.so_far ++ (text ++ output_from meaning app b (drop (i + 1) lines))) (sym step)
+      ∙ sym (append_assoc so.so_far text (output_from meaning app next (drop (i + 1) lines)));
   told = joins before now after so.so_far text so.told w;
 }
 
@@ -60,8 +61,8 @@ front_of (Some bytes) now so_far all rest h e =
     (length so_far + 0, h ∙ ap (λ t. Some (bytes ++ t)) (sym (ap (take (length so_far + 0)) e ∙ take-append-add so_far rest 0 ∙ append-nil so_far)))
 
 -- a front of the output was written
-pub front_so_far : (app : App) (script : List Line) (before now : Option (List ℕ)) (board : Board) (left : List Line) → Written app script before now board left → AddsFront before now (replay_output app script)
-front_so_far app script before now board left so = front_of before now so.so_far (replay_output app script) (output_from app board left) so.told so.whole
+pub front_so_far : {V : Type 0} (meaning : V → HandlerMeaning) (app : App V) (script : List Line) (before now : Option (List ℕ)) (board : Board V) (left : List Line) → Written meaning app script before now board left → AddsFront before now (replay_output meaning app script)
+front_so_far meaning app script before now board left so = front_of before now so.so_far (replay_output meaning app script) (output_from meaning app board left) so.told so.whole
 
 part_of : (before now after : Option (List ℕ)) (so_far text all rest : List ℕ) (n : ℕ) → IfSome before (λ bytes. now ≡ Some (bytes ++ so_far)) → Writes now after text (wrote.Failed n) → all ≡ so_far ++ (text ++ rest) → AddsFront before after all
 part_of None now after so_far text all rest n h w e = tt
@@ -71,12 +72,12 @@ part_of (Some bytes) now after so_far text all rest n h w e = (
       ∙ ap (λ t. Some (bytes ++ t)) (sym (ap (take (length so_far + n)) e ∙ take-append-add so_far (text ++ rest) n ∙ ap (λ t. so_far ++ t) (take-append-le n text rest w.0))),
 )
 
-pub front_failed : (app : App) (script : List Line) (before now after : Option (List ℕ)) (board : Board) (lines : List Line) (i : ℕ) (l : Line) (text : List ℕ) (n : ℕ) → i < length lines → l ≡ get_or lines i l
-    → text ≡ line_output board l → Writes now after text (wrote.Failed n) → Written app script before now board (drop i lines) → AddsFront before after (replay_output app script)
-front_failed app script before now after board lines i l text n h is said w so =
-    part_of before now after so.so_far text (replay_output app script) (output_from app (after_line app board l) (drop (i + 1) lines)) n so.told w
-    (so.whole ∙ ap (λ d. so.so_far ++ output_from app board d) (drop_more lines i l h ∙ ap (λ x. x ∷ drop (i + 1) lines) (sym is))
-    ∙ ap (λ t. so.so_far ++ (t ++ output_from app (after_line app board l) (drop (i + 1) lines))) (sym said))
+pub front_failed : {V : Type 0} (meaning : V → HandlerMeaning) (app : App V) (script : List Line) (before now after : Option (List ℕ)) (board : Board V) (lines : List Line) (i : ℕ) (l : Line) (text : List ℕ) (n : ℕ) → i < length lines → l ≡ get_or lines i l
+    → text ≡ line_output meaning board l → Writes now after text (wrote.Failed n) → Written meaning app script before now board (drop i lines) → AddsFront before after (replay_output meaning app script)
+front_failed meaning app script before now after board lines i l text n h is said w so =
+    part_of before now after so.so_far text (replay_output meaning app script) (output_from meaning app (after_line meaning app board l) (drop (i + 1) lines)) n so.told w
+    (so.whole ∙ ap (λ d. so.so_far ++ output_from meaning app board d) (drop_more lines i l h ∙ ap (λ x. x ∷ drop (i + 1) lines) (sym is))
+    ∙ ap (λ t. so.so_far ++ (t ++ output_from meaning app (after_line meaning app board l) (drop (i + 1) lines))) (sym said))
 
 -- a count that rose later rose
 pub rose_later : (a b c : ℕ) → a ≤ b → Rose b c → Rose a c
@@ -87,10 +88,10 @@ nothing_yet : (before : Option (List ℕ)) → IfSome before (λ bytes. before �
 nothing_yet None = tt
 nothing_yet (Some bytes) = ap Some (sym (append-nil bytes))
 
-pub begins : (app : App) (script : List Line) (before : Option (List ℕ)) (board : Board) (lines : List Line) → board ≡ [] → lines ≡ script → Written app script before before board lines
-begins app script before board lines none all = record {
+pub begins : {V : Type 0} (meaning : V → HandlerMeaning) (app : App V) (script : List Line) (before : Option (List ℕ)) (board : Board V) (lines : List Line) → board ≡ [] → lines ≡ script → Written meaning app script before before board lines
+begins meaning app script before board lines none all = record {
   so_far = [];
-  whole = ap (output_from app []) (sym all) ∙ ap (λ b. output_from app b lines) (sym none);
+  whole = ap (output_from meaning app []) (sym all) ∙ ap (λ b. output_from meaning app b lines) (sym none);
   told = nothing_yet before;
 }
 
@@ -98,6 +99,6 @@ written_all : (before now : Option (List ℕ)) (so_far all : List ℕ) → IfSom
 written_all None now so_far all h e = tt
 written_all (Some bytes) now so_far all h e = h ∙ ap (λ t. Some (bytes ++ t)) (sym e)
 
-pub all_written : (app : App) (script : List Line) (before now : Option (List ℕ)) (board : Board) (lines : List Line) (i : ℕ) → length lines ≤ i → Written app script before now board (drop i lines) → AddsAll before now (replay_output app script)
-all_written app script before now board lines i h so =
-    written_all before now so.so_far (replay_output app script) so.told (so.whole ∙ ap (λ d. so.so_far ++ output_from app board d) (drop_all i lines h) ∙ append-nil so.so_far)
+pub all_written : {V : Type 0} (meaning : V → HandlerMeaning) (app : App V) (script : List Line) (before now : Option (List ℕ)) (board : Board V) (lines : List Line) (i : ℕ) → length lines ≤ i → Written meaning app script before now board (drop i lines) → AddsAll before now (replay_output meaning app script)
+all_written meaning app script before now board lines i h so =
+    written_all before now so.so_far (replay_output meaning app script) so.told (so.whole ∙ ap (λ d. so.so_far ++ output_from meaning app board d) (drop_all i lines h) ∙ append-nil so.so_far)

@@ -1,5 +1,4 @@
-pub mod Script
-pub mod Reading
+pub mod Spoken
 pub mod Player
 pub mod Output
 pub mod Ends

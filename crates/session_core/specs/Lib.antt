@@ -1,8 +1,4 @@
-pub mod Message
-pub mod Frame
-pub mod Process
-pub mod Rendered
+pub mod Entries
 pub mod Machine
-pub mod Session
-pub mod Outcome
-pub mod Shown
+pub mod Handles
+pub mod Keeps

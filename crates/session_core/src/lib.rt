@@ -1,15 +1,8 @@
-//! One process: its messages, its frames, its journal, and the page that they show.
+//! One process as a machine: its journal, its inbox, and the headline that its type keeps.
 #![tactic(auto)]
 
-mod app;
 mod entry;
-mod frame;
-mod message;
-mod render;
 mod session;
 
-pub use app::App;
-pub use entry::Entry;
-pub use frame::join_text;
-pub use message::{MessageHead, read_message};
+pub use entry::{Entry, Waiting};
 pub use session::Session;

@@ -1,5 +1,5 @@
 use Rattle.std.proofs.Common.{◌≡◌, ℕ, List, Err, refl, subst}
-use Rattle.replay_core.specs.Script.{SpellsScript, IsBadLine}
+use Rattle.script_core.specs.Script.{SpellsScript, IsBadLine}
 use Rattle.live_cli.proofs.Sources.{source_spells, source_bad}
 use Rattle.live_cli.proofs.script.read_source.Goals as goal
 

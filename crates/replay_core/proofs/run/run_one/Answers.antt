@@ -2,5 +2,5 @@ use Rattle.replay_core.specs.Player.{runs}
 use Rattle.replay_core.proofs.Runs.{absent}
 use Rattle.replay_core.proofs.run.run_one.Goals as goal
 
-pub returns-in-None : goal.returns-in-None
-returns-in-None c = absent c.args.name.now c.as_str.result.now runs c.args.board.now c.remove.new.self c.as_str.ensures c.in-None.ensures.value c.in-None.ensures.rest
+pub returns-in-None-clause-board : goal.returns-in-None-clause-board
+returns-in-None-clause-board g c = absent c.args.name.now c.as_str.result.now (runs g.V.Views.meaning) c.args.board.now c.remove.new.self c.as_str.ensures c.in-None.ensures.value c.in-None.ensures.rest

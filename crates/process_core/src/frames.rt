@@ -1,0 +1,102 @@
+//! The frames of a message, as bytes.
+ghost use Rattle.std.specs.Prelude.{◌≡◌, [], ◌∷◌, IfOk, None, codes, ◌++◌};
+ghost use Rattle.diff_tree.specs.Frame as model;
+ghost use Rattle.doc_model.specs.Process.{frame_of, reply_to};
+ghost use Rattle.doc_model.specs.Journal.{spelled};
+ghost use Rattle.wire_v2.specs.View.{head_view};
+ghost use Rattle.wire_v2.specs.FrameLaws.{BodyStandsFor};
+
+use live_page::LivePage;
+use std::alloc::Global;
+use text_core::{Bytes, Frames, OutOfMemory, Seq, Text};
+use wire_v2::{Frame, FrameBody, MessageHead, write_frame};
+
+// A text or null, copied.
+fn reference_copy(alloc: Global, reference: &Option<Text>) -> Result<Option<Text>, OutOfMemory>
+    ensures { IfOk result (λ copy. copy ≡ reference.now) }
+{
+    match reference {
+        Some(text) => Ok(Some(text.copy(alloc)?)),
+        None => Ok(None),
+    }
+}
+
+fn alone(alloc: Global, bytes: Bytes) -> Result<Frames, OutOfMemory>
+    ensures { IfOk result (λ s. s ≡ bytes ∷ []) }
+{
+    let mut list = Seq::new(alloc);
+    list.push(bytes)?;
+    Ok(list)
+}
+
+// One frame.
+fn one_frame(
+    alloc: Global,
+    join_ref: &Option<Text>,
+    reference: &Option<Text>,
+    topic: &Text,
+    body: FrameBody,
+) -> Result<Frames, OutOfMemory>
+    ensures { IfOk result (λ fs. (b : model.FrameBody) → BodyStandsFor body b → fs ≡ spelled (frame_of join_ref.now reference.now topic.now b ∷ [])) }
+{
+    let frame = Frame {
+        join_ref: reference_copy(alloc, join_ref)?,
+        reference: reference_copy(alloc, reference)?,
+        topic: topic.copy(alloc)?,
+        body,
+    };
+    let bytes = write_frame(alloc, &frame)?;
+    alone(alloc, bytes)
+}
+
+/// The reply to a message.
+pub(crate) fn reply(
+    alloc: Global,
+    head: &MessageHead,
+    body: FrameBody,
+) -> Result<Frames, OutOfMemory>
+    ensures { IfOk result (λ fs. (b : model.FrameBody) → BodyStandsFor body b → fs ≡ spelled (reply_to (head_view head.now) b ∷ [])) }
+{
+    one_frame(alloc, &head.join_ref, &head.reference, &head.topic, body)
+}
+
+/// The answer to a sign of life.
+pub(crate) fn heartbeat(alloc: Global, head: &MessageHead) -> Result<Frames, OutOfMemory>
+    ensures { IfOk result (λ fs. fs ≡ spelled (frame_of None head.now.reference (codes "phoenix") model.empty ∷ [])) }
+{
+    let topic = Text::copy_of(alloc, "phoenix")?;
+    one_frame(alloc, &None, &head.reference, &topic, FrameBody::Empty)
+}
+
+/// A frame of the page itself: its join's reference stands for its own.
+pub(crate) fn own_frame(
+    alloc: Global,
+    page: &LivePage,
+    body: FrameBody,
+) -> Result<Frames, OutOfMemory>
+    ensures { IfOk result (λ fs. (b : model.FrameBody) → BodyStandsFor body b → fs ≡ spelled (frame_of page.now.join_ref page.now.join_ref page.now.topic b ∷ [])) }
+{
+    one_frame(alloc, &page.join_ref, &page.join_ref, &page.topic, body)
+}
+
+/// A frame of the page that answers no message.
+pub(crate) fn push(
+    alloc: Global,
+    page: &LivePage,
+    body: FrameBody,
+) -> Result<Frames, OutOfMemory>
+    ensures { IfOk result (λ fs. (b : model.FrameBody) → BodyStandsFor body b → fs ≡ spelled (frame_of page.now.join_ref None page.now.topic b ∷ [])) }
+{
+    one_frame(alloc, &page.join_ref, &None, &page.topic, body)
+}
+
+/// Frames, and then others.
+pub(crate) fn followed_by(frames: Frames, later: Frames) -> Result<Frames, OutOfMemory>
+    ensures { IfOk result (λ fs. fs ≡ frames ++ later) }
+{
+    let mut frames = frames;
+    for frame in later.into_vec() {
+        frames.push(frame)?;
+    }
+    Ok(frames)
+}

@@ -1,6 +1,0 @@
-use Rattle.std.proofs.Common.{◌≡◌, ◌++◌, drop}
-use Rattle.session_core.specs.Process.{journal_frames}
-use Rattle.session_core.proofs.session.later_frames.Given as goal
-
-abbrev pub invariant-loop-entry : goal.invariant-loop-entry
-invariant-loop-entry l = drop l.from (journal_frames l.journal) ≡ l.found ++ drop l.skipped (journal_frames (drop l.entry-index l.journal))

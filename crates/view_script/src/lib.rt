@@ -1,0 +1,10 @@
+//! Views whose handlers are the steps of a manifest.
+#![tactic(auto)]
+
+mod number;
+mod script;
+#[cfg(test)]
+mod tests;
+mod views;
+
+pub use views::ScriptViews;

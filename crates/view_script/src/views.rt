@@ -1,0 +1,123 @@
+//! Views by the steps of a manifest.
+ghost use Rattle.std.specs.Prelude.{◌≡◌, Some, None, [], ◌==◌, if◌then◌else◌};
+ghost use Rattle.value_core.specs.View.{assigns_view};
+ghost use Rattle.view_api.specs.View.{Means};
+ghost use Rattle.view_script.specs.Script.{effects_of};
+ghost use Rattle.view_script.specs.Views.{script_of, begun, nothing_done, taken, meaning_of_script};
+
+use crate::script::effects_of;
+use bundle_files::{Events, Steps};
+use std::alloc::Global;
+use text_core::{ByKey, Seq, Text};
+use value_core::{Assigns, Value};
+use view_api::{Effects, Owner, ViewFault, Views};
+
+/// One view, number 0, whose handlers are steps: at its mount, and at each event that it knows. It does nothing at
+/// params and messages. Other views, and components, raise.
+#[derive(Debug, Drop)]
+pub struct ScriptViews {
+    mount: Steps,
+    events: Events,
+}
+
+impl ScriptViews {
+    /// The view with these steps at its mount and at its events.
+    pub fn of(mount: Steps, events: Events) -> ScriptViews
+        ensures { result ≡ script_of mount events }
+    {
+        ScriptViews { mount, events }
+    }
+}
+
+fn nothing_done(alloc: Global, view: u32) -> Result<Effects, ViewFault>
+    ensures { Means result (nothing_done view) }
+{
+    if view != 0 {
+        return Err(ViewFault::Raised);
+    }
+    Ok(Seq::new(alloc))
+}
+
+fn begun(alloc: Global, views: &ScriptViews, view: u32) -> Result<Effects, ViewFault>
+    ensures { Means result (begun views.now view) }
+{
+    if view != 0 {
+        return Err(ViewFault::Raised);
+    }
+    let assigns = ByKey::new(alloc);
+    effects_of(alloc, views.mount.as_slice(), &assigns)
+}
+
+fn taken(
+    alloc: Global,
+    views: &ScriptViews,
+    owner: Owner,
+    event: &Text,
+    assigns: &Assigns,
+) -> Result<Effects, ViewFault>
+    ensures { Means result (taken views.now owner event.now (assigns_view assigns.now)) }
+{
+    let Owner::View(view) = owner else {
+        return Err(ViewFault::Raised);
+    };
+    if view != 0 {
+        return Err(ViewFault::Raised);
+    }
+    match views.events.get(event.as_str()) {
+        Some(steps) => effects_of(alloc, steps.as_slice(), assigns),
+        None => Err(ViewFault::Raised),
+    }
+}
+
+impl Views for ScriptViews {
+    ghost meaning = { meaning_of_script };
+
+    fn mount(&self, alloc: Global, view: u32, _params: &Value) -> Result<Effects, ViewFault> {
+        begun(alloc, self, view)
+    }
+
+    fn handle_params(
+        &self,
+        alloc: Global,
+        view: u32,
+        _params: &Value,
+        _assigns: &Assigns,
+    ) -> Result<Effects, ViewFault> {
+        nothing_done(alloc, view)
+    }
+
+    fn handle_event(
+        &self,
+        alloc: Global,
+        owner: Owner,
+        event: &Text,
+        _value: &Value,
+        assigns: &Assigns,
+    ) -> Result<Effects, ViewFault> {
+        taken(alloc, self, owner, event, assigns)
+    }
+
+    fn handle_info(
+        &self,
+        alloc: Global,
+        view: u32,
+        _message: &Value,
+        _assigns: &Assigns,
+    ) -> Result<Effects, ViewFault> {
+        nothing_done(alloc, view)
+    }
+
+    fn mount_component(&self, _alloc: Global, _module: u32) -> Result<Effects, ViewFault> {
+        Err(ViewFault::Raised)
+    }
+
+    fn update_component(
+        &self,
+        _alloc: Global,
+        _module: u32,
+        _attributes: &Assigns,
+        _assigns: &Assigns,
+    ) -> Result<Effects, ViewFault> {
+        Err(ViewFault::Raised)
+    }
+}
