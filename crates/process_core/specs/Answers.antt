@@ -1,5 +1,5 @@
 -- What a message made of a process.
-use Rattle.std.specs.Prelude.{◌≡◌, ℕ, ◌+◌, List, ◌++◌, length, map}
+use Rattle.std.specs.Prelude.{◌≡◌, ℕ, ◌+◌, List, [], ◌++◌, length, map, Option, Some, None}
 use Rattle.value_core.specs.View.{view}
 use Rattle.slot_compile.specs.declared.template.Node.{Node}
 use Rattle.effects_apply.specs.Applied.{action_view}
@@ -25,3 +25,11 @@ Fits w free = length w + free ≡ inbox_limit
 -- the answer to a step, from every state that is kept so and every inbox with that room
 abbrev pub AnswersStep : List Node → Process → ℕ → (ProcessState → List Waiting → Stepped) → Process → Outcome → Type 0
 AnswersStep ns before free step after o = (s : ProcessState) (w : List Waiting) → Keeps ns before s → Fits w free → Answers ns w (step s w) after o
+
+-- the last words of what is up
+abbrev pub words_of : Process → List (List ℕ)
+words_of kept = elim (kept.up) [ None ↦ [] | Some u ↦ u.last_words ]
+
+-- want of memory leaves the generation and the last words as they were
+abbrev pub Spares : Process → Process → Type 0
+Spares before after = (after.generation ≡ before.generation) × (words_of after ≡ words_of before)
