@@ -4,6 +4,8 @@
 mod adapters;
 mod app;
 mod command;
+#[cfg(test)]
+mod event_tests;
 mod script;
 mod status;
 #[cfg(test)]
