@@ -1,0 +1,4 @@
+pub mod Plain
+pub mod Turning
+pub mod Settling
+pub mod Lifting
