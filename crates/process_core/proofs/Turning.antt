@@ -1,16 +1,19 @@
 -- What a turn of a page of texts leaves of it, and of the process beside it.
 use Rattle.std.proofs.Common.{◌≡◌, ℕ, List, [], ◌∷◌, ◌++◌, ◌+◌, length, map, Option, Some, None, Result, Ok, Err, IsErr, Bool, true, false, refl, sym, ap, ◌∙◌, subst, nat_lt, if◌then◌else◌}
 use Rattle.std.proofs.lemmas.List.{append-nil}
+use Rattle.serde_json.specs.Data.{Data}
+use Rattle.serde_json.specs.Written.{compact_text}
 use Rattle.value_core.specs.Value.{Value, Assigns}
-use Rattle.value_core.specs.View.{view}
+use Rattle.value_core.specs.declared.raise.Raise.TheVariants.{BadArgument, InboxFull}
 use Rattle.view_api.specs.Effect.{Effect, assign_to, stream_insert, stream_delete, stream_reset, subscribe, unsubscribe, publish, send_self, push_event}
 use Rattle.view_api.specs.Meaning.{HandlerMeaning}
 use Rattle.slot_compile.specs.Template.{places_of}
 use Rattle.diff_render.specs.Met.{items_of}
 use Rattle.diff_render.specs.Renders.{present}
+use Rattle.diff_tree.specs.Container.{Position, Limit}
 use Rattle.doc_model.specs.Environment.{Stream}
 use Rattle.doc_model.specs.Evaluation.{Res, then_do, on_res}
-use Rattle.doc_model.specs.Effects.{Rest, Applied, Waiting, sent, inbox_limit, is_kept_name, storable, sendable, position_of, limit_of, apply_effect, apply_effects, applied_or_raise, send_value}
+use Rattle.doc_model.specs.Effects.{Rest, Applied, Waiting, sent, inbox_limit, is_kept_name, storable, sendable, position_of, limit_of, assigned, in_stream, batch_insert, insert_of, acting, to_publish, send_value, apply_effect, apply_effects}
 use Rattle.doc_model.specs.Trace.{Items}
 use Rattle.doc_model.specs.Process.{Page, Outcome, view_turn, rendered_page, turning_view}
 use Rattle.live_page.specs.declared.app.App.{App}
@@ -39,16 +42,30 @@ either g true x y h k = h
 either g false x y h k = k
 
 one_effect : (e : Effect) (p : Applied) → Under p.1.generation (apply_effect e p)
-one_effect (assign_to n v) p = either p.1.generation (is_kept_name n) _ _ tt (on_any p.1.generation _ (storable v) (λ a. refl))
-one_effect (stream_insert s id v at limit) p =
-    then_any p.1.generation _ (storable v) (λ a. then_any p.1.generation _ (position_of at) (λ b. on_any p.1.generation _ (limit_of limit) (λ c. refl)))
+one_effect (assign_to n v) p =
+    either p.1.generation (is_kept_name n) (Err BadArgument) (on_res (λ w. assigned n w p) (storable v)) tt (on_any p.1.generation (λ w. assigned n w p) (storable v) (λ w. refl))
+one_effect (stream_insert s id v at limit) p = then_any p.1.generation placed (storable v) (λ w. then_any p.1.generation (limited w) (position_of at) (λ q. on_any p.1.generation (inserted w q) (limit_of limit) (λ l. refl)))
+  where
+    inserted : Value → Position → Limit → Applied
+    inserted w q l = (in_stream s (batch_insert (insert_of id w q l)) p.0, p.1)
+
+    limited : Value → Position → Res Applied
+    limited w q = on_res (inserted w q) (limit_of limit)
+
+    placed : Value → Res Applied
+    placed w = then_do (position_of at) (limited w)
 one_effect (stream_delete s id) p = refl
 one_effect (stream_reset s) p = refl
 one_effect (subscribe t) p = refl
 one_effect (unsubscribe t) p = refl
-one_effect (publish t v) p = on_any p.1.generation _ (sendable v) (λ a. refl)
-one_effect (send_self v) p = then_any p.1.generation _ (sendable v) (λ a. either p.1.generation (nat_lt (length p.1.inbox) inbox_limit) _ _ refl tt)
-one_effect (push_event n v) p = on_any p.1.generation _ (sendable v) (λ a. refl)
+one_effect (publish t v) p = on_any p.1.generation (λ d. acting (to_publish t (compact_text d)) p) (sendable v) (λ d. refl)
+one_effect (send_self v) p =
+    then_any p.1.generation (λ d. send_value v p) (sendable v)
+    (λ d. either p.1.generation (nat_lt (length p.1.inbox) inbox_limit) (Ok (p.0, record p.1 { inbox = p.1.inbox ++ sent p.1.generation v ∷ [] })) (Err InboxFull) refl tt)
+one_effect (push_event n v) p = on_any p.1.generation pushes (sendable v) (λ d. refl)
+  where
+    pushes : Data → Applied
+    pushes d = (p.0, record p.1 { pushed = p.1.pushed ++ (n, d) ∷ [] })
 
 all_effects : (es : List Effect) (p : Applied) → Under p.1.generation (apply_effects es p)
 all_effects [] p = refl

@@ -1,10 +1,15 @@
 //! What a turn of a page gives: the frames of its diff, and what it left beside the page.
-ghost use Rattle.std.specs.Prelude.{◌≡◌, ◌&&◌, IfOk};
+ghost use Rattle.std.specs.Prelude.{◌≡◌, ◌&&◌, [], map, IfOk};
+ghost use Rattle.serde_json.specs.Data.{object};
 ghost use Rattle.diff_tree.specs.Container.{is_none};
+ghost use Rattle.diff_tree.specs.Client.{PageDiff};
+ghost use Rattle.diff_tree.specs.Spelling.{changes_json};
 ghost use Rattle.diff_tree.specs.Parts.{part_data};
 ghost use Rattle.wire_v2.specs.FrameGrammar.{is_empty_object};
+ghost use Rattle.wire_v2.specs.FrameData.{pushed_of};
+ghost use Rattle.wire_v2.specs.FrameLaws.{BodyStandsFor};
 ghost use Rattle.wire_v2.specs.View.{head_view};
-ghost use Rattle.doc_model.specs.Process.{reply_diff};
+ghost use Rattle.doc_model.specs.Process.{diff_body, reply_diff};
 ghost use Rattle.process_core.specs.Turned.{SpellsDiff, Sums, SumsUp, push_under};
 
 use crate::frames::{push, reply};
@@ -36,20 +41,15 @@ fn is_nothing(part: &Part, events: &Pushes) -> bool
     is_bare(part)
 }
 
-// The reply that carries a diff, or nothing where there is none.
-fn diff_reply(
-    alloc: Global,
-    head: &MessageHead,
-    part: Part,
-    events: Pushes,
-) -> Result<Frames, OutOfMemory>
-    ensures { IfOk result (SpellsDiff (reply_diff (head_view head.now)) part events) }
+// What a reply carries: the diff, or nothing where it is empty.
+fn reply_body(part: Part, events: Pushes) -> FrameBody
+    ensures { (d : PageDiff) → d.components ≡ [] → part_data part ≡ object (changes_json 0 d.root) → BodyStandsFor result (diff_body d (map pushed_of events)) }
 {
     if is_nothing(&part, &events) {
-        return reply(alloc, head, FrameBody::Empty);
+        return FrameBody::Empty;
     }
     let diff = Diff::new(part);
-    reply(alloc, head, FrameBody::Changed { diff, events })
+    FrameBody::Changed { diff, events }
 }
 
 // The frame that pushes a diff, where there is one.
@@ -100,7 +100,8 @@ fn replied(
         actions,
         pushed,
     } = rest;
-    let frames = diff_reply(alloc, head, part, pushed)?;
+    let body = reply_body(part, pushed);
+    let frames = reply(alloc, head, body)?;
     Ok(Outcome {
         frames,
         sent,

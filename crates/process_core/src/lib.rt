@@ -7,9 +7,11 @@ mod frames;
 mod fresh;
 mod outcome;
 mod process;
+mod shown;
 mod turn;
 
 pub use answering::answer;
 pub use outcome::Outcome;
 pub use process::{Process, Up};
+pub use shown::page_text;
 pub use turn::told;
