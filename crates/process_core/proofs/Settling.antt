@@ -35,9 +35,9 @@ use Rattle.process_core.proofs.Plain.{plain_diff}
 use Rattle.process_core.proofs.Turning.{Keeping, turn_keeps}
 
 -- the process beside a page, as it begins
-pub record Begun (g free : ℕ) (r : Beside) : Type 0 where
+pub record Begun (g room : ℕ) (r : Beside) : Type 0 where
   pub generation : r.generation ≡ g
-  pub free : r.free ≡ free
+  pub free : r.free ≡ room
   pub sent : r.sent ≡ []
   pub actions : r.actions ≡ []
   pub pushed : r.pushed ≡ []

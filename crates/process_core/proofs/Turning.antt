@@ -69,11 +69,11 @@ one_effect (push_event n v) p = on_any p.1.generation pushes (sendable v) (λ d.
 
 all_effects : (es : List Effect) (p : Applied) → Under p.1.generation (apply_effects es p)
 all_effects [] p = refl
-all_effects (e ∷ es) p = by (apply_effect e p) (one_effect e p)
+all_effects (e ∷ es) p = by (apply_effect e p) (one_effect e p) (all_effects es)
   where
-    by : (r : Res Applied) → Under p.1.generation r → Under p.1.generation (then_do r (apply_effects es))
-    by (Ok q) h = subst (λ g. Under g (apply_effects es q)) h (all_effects es q)
-    by (Err k) h = tt
+    by : (r : Res Applied) → Under p.1.generation r → ((q : Applied) → Under q.1.generation (apply_effects es q)) → Under p.1.generation (then_do r (apply_effects es))
+    by (Ok q) h rest = subst (λ g. Under g (apply_effects es q)) h (rest q)
+    by (Err k) h rest = tt
 
 -- ---- a turn keeps the join and the generation
 

@@ -32,7 +32,7 @@ push_under j t d es = if no_difference d es then [] else frame_of j None t (push
 
 -- these frames spell those of the diff that is sent, which is one of a page without components
 abbrev pub SpellsDiff : FramesOf → Part → List Push → List (List ℕ) → Type 0
-SpellsDiff frames sent es fs = (d : PageDiff) → d.components ≡ [] → part_data sent ≡ object (changes_json 0 d.root) → fs ≡ spelled (frames d (map pushed_of es))
+SpellsDiff frames part es fs = (d : PageDiff) → d.components ≡ [] → part_data part ≡ object (changes_json 0 d.root) → fs ≡ spelled (frames d (map pushed_of es))
 
 -- what a turn gives that raised nothing: the frames of its diff, and what it left beside the page
 abbrev pub SumsUp : FramesOf → Part → Rest → Outcome → Type 0
