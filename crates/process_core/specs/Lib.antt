@@ -1,2 +1,4 @@
 pub mod Kept
 pub mod Answers
+pub mod Turned
+pub mod Shown
