@@ -1,2 +1,5 @@
 pub mod Kept
 pub mod Answers
+pub mod Leaving
+pub mod Joining
+pub mod Answering

@@ -1,0 +1,4 @@
+pub mod Whole
+pub mod Stays
+pub mod Left
+pub mod Came
