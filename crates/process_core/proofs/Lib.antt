@@ -4,3 +4,7 @@ pub mod Settling
 pub mod Lifting
 pub mod Texts
 pub mod Arms
+pub mod Whole
+pub mod Stays
+pub mod Left
+pub mod Came

@@ -5,6 +5,8 @@ mod answering;
 mod diffs;
 mod frames;
 mod fresh;
+mod join;
+mod leave;
 mod outcome;
 mod process;
 mod shown;
