@@ -7,7 +7,7 @@ use Rattle.doc_model.specs.Effects.{Waiting, sent, inbox_limit}
 use Rattle.doc_model.specs.Process.{ProcessState, Stepped}
 use Rattle.doc_model.specs.Journal.{spelled}
 use Rattle.process_core.specs.declared.process.Process.{Process}
-use Rattle.process_core.specs.declared.answer.Outcome.{Outcome}
+use Rattle.process_core.specs.declared.outcome.Outcome.{Outcome}
 use Rattle.process_core.specs.Kept.{Keeps}
 
 -- the step of the definitions, with the state kept after it and the outcome, where `w` waited

@@ -1,13 +1,15 @@
 //! One process between two messages, and what each message makes of it.
 #![tactic(auto)]
 
-mod answer;
 mod frames;
+mod message;
 mod outcome;
 mod process;
+mod shown;
 mod turn;
 
-pub use answer::answer;
+pub use message::answer;
 pub use outcome::Outcome;
 pub use process::{Process, Up};
+pub use shown::page_text;
 pub use turn::told;
