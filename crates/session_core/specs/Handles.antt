@@ -1,11 +1,10 @@
 -- What the calls on a session answer.
-use Rattle.std.specs.Prelude.{◌≡◌, ◌≢◌, ℕ, true, false, List, [], ◌∷◌, ◌++◌, map, Option, Some, None, Ok, codes}
+use Rattle.std.specs.Prelude.{◌≡◌, ◌≢◌, ℕ, true, false, List, [], ◌∷◌, ◌++◌, map, Some, codes}
 use Rattle.view_api.specs.Meaning.{HandlerMeaning}
 use Rattle.machine_api.specs.declared.machine.Handled.{Handled}
 use Rattle.machine_api.specs.declared.machine.Handled.TheVariants as handled
 use Rattle.effects_apply.specs.Applied.{action_view}
 use Rattle.live_page.specs.World.{world_of}
-use Rattle.doc_model.specs.Process.{World, Page, page_text}
 use Rattle.doc_model.specs.Journal.{fault_frames, spelled}
 use Rattle.session_core.specs.declared.entry.Entry.{Entry}
 use Rattle.session_core.specs.declared.entry.Entry.TheVariants as entry
@@ -25,9 +24,3 @@ HandlesFront meaning by old handled.Crashed new =
     ((front_step meaning old).crashed ≡ true) × Adds meaning by (entry.Handled (spelled (front_step meaning old).frames)) old new
 HandlesFront meaning by old handled.Fell new =
     Adds meaning by (entry.Fell (spelled (fault_frames (standing_of meaning old).state.page (Some (codes "out of memory"))))) old new
-
--- the page of what is up, or none where nothing is
-abbrev pub ShowsUp : World → Option Page → Option (List ℕ) → Type 0
-ShowsUp w None text = text ≡ None
-ShowsUp w (Some p) None = ⊥
-ShowsUp w (Some p) (Some text) = page_text w p ≡ Ok text

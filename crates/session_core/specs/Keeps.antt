@@ -5,6 +5,7 @@ use Rattle.std.specs.VecDeque.{deque_len}
 use Rattle.view_api.specs.Meaning.{HandlerMeaning}
 use Rattle.live_page.specs.World.{world_of}
 use Rattle.process_core.specs.Kept.{Keeps}
+use Rattle.doc_model.specs.Effects.{inbox_limit}
 use Rattle.doc_model.specs.Journal.{SessionHolds, Standing}
 use Rattle.session_core.specs.declared.session.Session.TheInside.{Inside}
 use Rattle.session_core.specs.Entries.{journal_view, inbox_view}
@@ -21,3 +22,4 @@ pub record KeepsAll {V : Type 0} (meaning : V → HandlerMeaning) (s : Inside V)
   pub size : s.kept ≡ min (kept_size (machine_of s)) 18446744073709551615
   pub room : vec_len s.journal + deque_len s.inbox ≤ vec_capacity s.journal
   pub joins : s.process.generation ≤ vec_len s.journal
+  pub waits : deque_len s.inbox ≤ inbox_limit

@@ -2,7 +2,13 @@
 #![tactic(auto)]
 
 mod entry;
+mod frames;
+mod message;
+mod post;
 mod session;
+#[cfg(test)]
+mod tests;
+mod written;
 
 pub use entry::{Entry, Waiting};
 pub use session::Session;

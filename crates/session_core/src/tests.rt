@@ -1,0 +1,59 @@
+//! A page that greets: it is joined, and its frame is read.
+use crate::Session;
+use live_page::App;
+use machine_api::Handled;
+use route_table::Routes;
+use slot_compile::{Node, compile};
+use std::alloc::Global;
+use std::sync::Arc;
+use std::test::Fail;
+use text_core::{Frames, OutOfMemory, Seq, Text};
+use view_api::Greeting;
+
+// `{@greeting}` at `/`.
+fn greeting_app(alloc: Global) -> Result<Option<App<Greeting>>, OutOfMemory> {
+    let mut nodes = Seq::new(alloc);
+    nodes.push(Node::Put(Text::copy_of(alloc, "greeting")?))?;
+    let mut paths = Seq::new(alloc);
+    paths.push(Text::copy_of(alloc, "/")?)?;
+    match Routes::build(alloc, &paths) {
+        Ok(routes) => Ok(Some(App::build(compile(alloc, nodes)?, routes, Greeting))),
+        Err(_) => Ok(None),
+    }
+}
+
+fn joins(session: &mut Session<Greeting>) -> bool {
+    let text = b"[\"1\",\"1\",\"lv:A\",\"phx_join\",{\"url\":\"/\"}]";
+    match session.hear(0, text) {
+        Ok(_) => handles(session),
+        Err(_) => false,
+    }
+}
+
+fn handles(session: &mut Session<Greeting>) -> bool {
+    match session.handle(0) {
+        Handled::Done(_) => session.is_idle(),
+        _ => false,
+    }
+}
+
+fn joined_frames(alloc: Global, app: App<Greeting>) -> Result<Frames, OutOfMemory> {
+    let app = Arc::new(alloc, app)?;
+    let mut session = Session::start(alloc, &app)?;
+    if joins(&mut session) {
+        session.frames_from(alloc, 0)
+    } else {
+        Ok(Seq::new(alloc))
+    }
+}
+
+#[test]
+fn a_page_is_joined(rt: HostRuntime) -> Result<(), Fail> {
+    let alloc = rt.alloc();
+    if let Some(app) = greeting_app(alloc)? {
+        let frames = joined_frames(alloc, app)?;
+        assert_eq!(rt; frames.len(), 1);
+        return Ok(());
+    }
+    Err("no routes")?
+}
