@@ -1,4 +1,3 @@
-<<<<<<< HEAD
 //! The text of the page that is up.
 ghost use Rattle.std.specs.Prelude.{◌≡◌, ◌+◌, length, IfOk, Ok, Some};
 ghost use Rattle.text_core.specs.Keyed.{lookup};
@@ -6,19 +5,11 @@ ghost use Rattle.slot_compile.specs.Template.{weave};
 ghost use Rattle.slot_compile.specs.Rendering.{full_render, on_ok, place_text, place_texts, shown};
 ghost use Rattle.doc_model.specs.Process.{ProcessState};
 ghost use Rattle.live_page.specs.World.{world_of};
-=======
-//! The text of what is up.
-ghost use Rattle.std.specs.Prelude.{IfOk};
-ghost use Rattle.view_api.specs.Meaning.{HandlerMeaning};
-ghost use Rattle.live_page.specs.World.{world_of};
-ghost use Rattle.doc_model.specs.Process.{ProcessState};
->>>>>>> c1ecb1958ccc5f7e97b4f1645f79ccb5935cdaec
 ghost use Rattle.process_core.specs.Kept.{Keeps};
 ghost use Rattle.process_core.specs.Shown.{ShowsUp};
 
 use crate::process::Process;
 use live_page::App;
-<<<<<<< HEAD
 use slot_compile::Compiled;
 use std::alloc::Global;
 use text_core::{OutOfMemory, Text};
@@ -26,13 +17,6 @@ use value_core::{Assigns, Value, to_html};
 use view_api::Views;
 
 /// The text of the page that is up, if one is, as the full rendering gives it.
-=======
-use std::alloc::Global;
-use text_core::{OutOfMemory, Text};
-use view_api::Views;
-
-/// The text of the page that is up, if one is, by the full rendering.
->>>>>>> c1ecb1958ccc5f7e97b4f1645f79ccb5935cdaec
 pub fn page_text<V: Views>(
     alloc: Global,
     app: &App<V>,
@@ -40,7 +24,6 @@ pub fn page_text<V: Views>(
 ) -> Result<Option<Text>, OutOfMemory>
     ensures { IfOk result (λ text. (s : ProcessState) → Keeps app.now.compiled process.now s → ShowsUp (world_of V.meaning app.now) s.page text) }
 {
-<<<<<<< HEAD
     match &process.up {
         Some(up) => {
             let text = rendered(alloc, &app.compiled, up.page.assigns.assigns())?;
@@ -94,7 +77,4 @@ fn value_text(alloc: Global, value: &Value) -> Result<Text, OutOfMemory>
         Ok(text) => Ok(text),
         Err(_) => Err(OutOfMemory),
     }
-=======
-    Err(OutOfMemory)
->>>>>>> c1ecb1958ccc5f7e97b4f1645f79ccb5935cdaec
 }
