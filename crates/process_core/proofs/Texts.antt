@@ -16,8 +16,17 @@ use Rattle.slot_compile.specs.Rendering as own
 use Rattle.doc_model.specs.Environment.{Env, lookup}
 use Rattle.doc_model.specs.Evaluation.{Res, then_do, both, on_res, or_raise, printed, eval_expr}
 use Rattle.doc_model.specs.Scopes.{Site, Deeper}
-use Rattle.doc_model.specs.FullRendering.{full_nodes, full_place}
+use Rattle.doc_model.specs.FullRendering.{full_nodes, full_place, full_render}
+use Rattle.doc_model.specs.Process.{Page, scope_of_view, page_text}
 use Rattle.diff_render.proofs.Loops.{lookup_seen}
+use Rattle.view_api.specs.Meaning.{HandlerMeaning}
+use Rattle.live_page.specs.declared.app.App.{App}
+use Rattle.live_page.specs.declared.page.LivePage.{LivePage}
+use Rattle.live_page.specs.World.{world_of, site as page_site}
+use Rattle.live_page.specs.Page.{StandsFor}
+use Rattle.process_core.specs.declared.process.Up.{Up}
+use Rattle.process_core.specs.Kept.{UpStands}
+use Rattle.process_core.specs.Shown.{ShowsUp}
 
 value_shown : (v : Value) (t : Option (List ℕ)) → on_res escape_text (or_raise t NotPrintable) ≡ own.printed t
 value_shown v None = refl
@@ -78,3 +87,18 @@ one_woven kv s ss n ns text t whole is so_far = by (own.place_texts kv ns) ∙ a
 
 pub last_woven : (kv : List (KeyValue Value)) (s : List ℕ) (text : List ℕ) (whole : Res (List ℕ)) → Weaves kv (s ∷ []) [] text whole → whole ≡ Ok (text ++ s)
 last_woven kv s text whole so_far = sym so_far
+
+-- ---- the page that is up
+
+module _ {V : Type 0} (meaning : V → HandlerMeaning) (app : App V) where
+  one_page : (u : LivePage) (p : Page) (text : List ℕ) → StandsFor app.compiled u p → own.full_render u.assigns.present app.compiled ≡ Ok text → page_text (world_of meaning app) p ≡ Ok text
+  one_page u p text stands is =
+      same_rendering page_site (full_render page_site 40) (scope_of_view p.assigns p.streams p.components) u.assigns.present app.compiled (ap (λ (x : Page). x.assigns) stands.is) ∙ is
+
+  pub shows_text : (u : Up) (q : Option Page) (text : List ℕ) → UpStands app.compiled (Some u) q → own.full_render u.page.assigns.present app.compiled ≡ Ok text → ShowsUp (world_of meaning app) q (Some text)
+  shows_text u None text up is = absurd up
+  shows_text u (Some p) text up is = one_page u.page p text up.stands is
+
+  pub shows_none : (q : Option Page) → UpStands app.compiled None q → ShowsUp (world_of meaning app) q None
+  shows_none None up = refl
+  shows_none (Some p) up = absurd up
