@@ -1,14 +1,13 @@
 //! One process between two messages, and what each message makes of it.
 #![tactic(auto)]
 
-mod frames;
-mod message;
+mod answering;
 mod outcome;
 mod process;
 mod shown;
 mod turn;
 
-pub use message::answer;
+pub use answering::answer;
 pub use outcome::Outcome;
 pub use process::{Process, Up};
 pub use shown::page_text;
