@@ -12,10 +12,14 @@ use Rattle.session_core.specs.declared.entry.Entry.{Entry}
 use Rattle.session_core.specs.declared.entry.Entry.TheVariants as entry
 use Rattle.session_core.specs.declared.entry.Waiting.{Waiting}
 use Rattle.session_core.specs.Entries.{waiting_view, inbox_view}
-use Rattle.session_core.specs.Machine.{Machine, front_step}
+use Rattle.session_core.specs.Machine.{Machine, standing_of, front_step, kept_size}
+use Rattle.machine_api.specs.declared.machine.PostFault.{PostFault}
+use Rattle.machine_api.specs.declared.machine.PostFault.TheVariants.{Full, JournalFull, OutOfMemory}
+use Rattle.machine_api.specs.Steps.{Fits, Posts}
+use Rattle.session_core.specs.Posted.{Refuses, IsMemory}
 use Rattle.session_core.specs.Written.{told_as}
 use Rattle.session_core.specs.Handles.{HandlesFront}
-use Rattle.session_core.proofs.Goes.{machine, Stands, world, standing, waits, front_is, front_answer, words_fell}
+use Rattle.session_core.proofs.Goes.{machine, Stands, world, standing, waits, waiting_count, front_is, front_answer, words_fell}
 
 module _ {V : Type 0} (meaning : V → HandlerMeaning) (app : App V) where
   -- a message that was handled
@@ -43,3 +47,31 @@ module _ {V : Type 0} (meaning : V → HandlerMeaning) (app : App V) where
 
   pub none_waits : (es : List (ℕ × Entry)) (inbox : List Waiting) → (standing meaning app es).inbox ≡ inbox_view inbox → inbox ≡ [] → (standing meaning app es).inbox ≡ []
   none_waits es inbox h e = h ∙ ap inbox_view e
+
+  -- a text that is refused
+  pub refused : (es : List (ℕ × Entry)) (inbox : List Waiting) (kept asked waiting : ℕ) (p : Process) (by : ℕ) (t : List ℕ) (fault : PostFault) → Stands meaning app es inbox kept p → waiting ≡ length inbox → asked ≡ min (length t + 64) 18446744073709551615
+      → Refuses waiting kept asked fault → Posts by (entry.Heard t) (64 + length t) (length (standing meaning app es).inbox) (kept_size (machine app es)) es (Err fault) es
+  refused es inbox kept asked waiting p by t Full s n a h = let e = waiting_count meaning app es inbox s.inbox_is in (omega (arith, n, h, e), refl)
+  refused es inbox kept asked waiting p by t (JournalFull k b) s n a h =
+      let e = waiting_count meaning app es inbox s.inbox_is in
+      let size = s.size in
+      (omega (arith, n, h.0, e), omega (arith, size, a, h.1), h.2 ∙ size, h.3 ∙ a ∙ ap (λ x. min x 18446744073709551615) (omega arith), refl)
+  refused es inbox kept asked waiting p by t OutOfMemory s n a h = absurd h
+
+  -- a text that fits
+  fits : (es : List (ℕ × Entry)) (inbox : List Waiting) (kept asked waiting : ℕ) (p : Process) (t : List ℕ) → Stands meaning app es inbox kept p → waiting ≡ length inbox → asked ≡ min (length t + 64) 18446744073709551615
+      → waiting < 1024 → kept + asked ≤ 16777216 → Fits (length (standing meaning app es).inbox) (kept_size (machine app es)) (64 + length t)
+  fits es inbox kept asked waiting p t s n a few h = let e = waiting_count meaning app es inbox s.inbox_is in let size = s.size in (omega (arith, n, few, e), omega (arith, size, a, h))
+
+  -- memory was wanting at a text that fits
+  pub wanted : (es es' : List (ℕ × Entry)) (inbox : List Waiting) (kept asked waiting : ℕ) (p : Process) (by : ℕ) (t : List ℕ) (fault : PostFault) → Stands meaning app es inbox kept p → waiting ≡ length inbox → asked ≡ min (length t + 64) 18446744073709551615
+      → waiting < 1024 → kept + asked ≤ 16777216 → IsMemory fault → es' ≡ es → Posts by (entry.Heard t) (64 + length t) (length (standing meaning app es).inbox) (kept_size (machine app es)) es (Err fault) es'
+  wanted es es' inbox kept asked waiting p by t Full s n a few h m e = absurd m
+  wanted es es' inbox kept asked waiting p by t (JournalFull k b) s n a few h m e = absurd m
+  wanted es es' inbox kept asked waiting p by t OutOfMemory s n a few h m e = (fits es inbox kept asked waiting p t s n a few h, e)
+
+  -- a text that was put into the inbox
+  pub posted : (es es' : List (ℕ × Entry)) (inbox : List Waiting) (kept asked waiting place : ℕ) (p : Process) (by : ℕ) (t : List ℕ) → Stands meaning app es inbox kept p → waiting ≡ length inbox → asked ≡ min (length t + 64) 18446744073709551615
+      → waiting < 1024 → kept + asked ≤ 16777216 → place ≡ length es → es' ≡ es ++ (by, entry.Heard t) ∷ []
+      → Posts by (entry.Heard t) (64 + length t) (length (standing meaning app es).inbox) (kept_size (machine app es)) es (Ok place) es'
+  posted es es' inbox kept asked waiting place p by t s n a few h at e = (fits es inbox kept asked waiting p t s n a few h, at, e)

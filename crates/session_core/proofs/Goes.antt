@@ -163,3 +163,11 @@ module _ {V : Type 0} (meaning : V → HandlerMeaning) (app : App V) where
         inbox_is = ap (λ (y : Standing). y.inbox) one.0 ∙ ap without_front s.inbox_is;
         size = grown_size kept (journal_size (journal_view es)) (total_length words) s.size ∙ ap (λ k. min k 18446744073709551615) (sym (kept_more es by (entry.Fell words)));
       }
+
+  -- the same parts under other names
+  pub stands_as : (es es' : List (ℕ × Entry)) (inbox inbox' : List Waiting) (kept kept' : ℕ) (p p' : Process) → es' ≡ es → inbox' ≡ inbox → kept' ≡ kept → p' ≡ p → Stands meaning app es inbox kept p → Stands meaning app es' inbox' kept' p'
+  stands_as es es' inbox inbox' kept kept' p p' a b c d s =
+      subst (λ (x : Process). Stands meaning app es' inbox' kept' x) (sym d)
+      (subst (λ (x : ℕ). Stands meaning app es' inbox' x p) (sym c)
+      (subst (λ (x : List Waiting). Stands meaning app es' x kept p) (sym b)
+      (subst (λ (x : List (ℕ × Entry)). Stands meaning app x inbox kept p) (sym a) s)))

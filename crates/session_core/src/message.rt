@@ -3,7 +3,7 @@ ghost use Rattle.std.specs.Prelude.{◌≡◌, ◌+◌, ◌-◌, ◌<◌, ◌≤
 ghost use Rattle.std.specs.VecDeque.{deque_len, deque_capacity};
 ghost use Rattle.doc_model.specs.Process.{step_waiting};
 ghost use Rattle.live_page.specs.World.{world_of};
-ghost use Rattle.process_core.specs.Answers.{AnswersStep, Spares, words_of};
+ghost use Rattle.process_core.specs.Answers.{AnswersStep, words_of};
 ghost use Rattle.session_core.specs.Entries.{waiting_view};
 
 use crate::entry::{Entry, Waiting};
@@ -27,7 +27,8 @@ fn words_copy(alloc: Global, process: &Process) -> Result<Frames, OutOfMemory>
 
 // The last words of what was up.
 fn words_taken(alloc: Global, process: &mut Process) -> Frames
-    ensures { result ≡ words_of process.old }
+    ensures words { result ≡ words_of process.old }
+    ensures generation { process.new.generation ≡ process.old.generation }
 {
     match process.up.take() {
         Some(up) => {
@@ -47,15 +48,17 @@ fn step<V: Views>(
     app: &App<V>,
     process: &mut Process,
     free: u32,
-    message: Waiting,
+    message: &Waiting,
 ) -> Result<Outcome, OutOfMemory>
     requires { process.old.generation < 18446744073709551615 }
-    ensures ok { IfOk result (λ o. AnswersStep app.now.compiled process.old free (λ s w. step_waiting (world_of V.meaning app.now) s w (waiting_view message)) process.new o) }
+    ensures ok { IfOk result (λ o. AnswersStep app.now.compiled process.old free (λ s w. step_waiting (world_of V.meaning app.now) s w (waiting_view message.now)) process.new o) }
     ensures generation { process.new.generation ≤ process.old.generation + 1 }
 {
     match message {
         Waiting::Heard(text) => answer(alloc, app, process, free, text.as_slice()),
-        Waiting::Sent { generation, value } => told(alloc, app, process, free, generation, &value),
+        Waiting::Sent { generation, value } => {
+            told(alloc, app, process, free, *generation, value)
+        }
     }
 }
 
@@ -118,13 +121,13 @@ fn outcome_or<V: Views>(
     journal: &mut Vec<(u32, Entry)>,
     inbox: &mut VecDeque<Waiting>,
     process: &mut Process,
-    message: Waiting,
+    message: &Waiting,
     words: Frames,
 ) -> Result<Outcome, Frames>
     requires room { vec_len journal.old + deque_len inbox.old < vec_capacity journal.old }
     requires limit { deque_len inbox.old < 1024 }
     requires generation { process.old.generation < 18446744073709551615 }
-    ensures ok { IfOk result (λ o. AnswersStep app.now.compiled process.old (1024 - deque_len inbox.old) (λ s w. step_waiting (world_of V.meaning app.now) s w (waiting_view message)) process.new o) }
+    ensures ok { IfOk result (λ o. AnswersStep app.now.compiled process.old (1024 - deque_len inbox.old) (λ s w. step_waiting (world_of V.meaning app.now) s w (waiting_view message.now)) process.new o) }
     ensures err { IfErr result (λ frames. frames ≡ words) }
     ensures fits { IfOk result (λ o. deque_len inbox.old + length o.sent ≤ 1024) }
     ensures inbox_room { IfOk result (λ o. deque_len inbox.new + length o.sent ≤ deque_capacity inbox.new) }
@@ -169,7 +172,7 @@ pub(crate) fn outcome_of<V: Views>(
     ensures generation { process.new.generation ≤ process.old.generation + 1 }
 {
     match words_copy(alloc, process) {
-        Ok(words) => outcome_or(alloc, app, journal, inbox, process, message, words),
+        Ok(words) => outcome_or(alloc, app, journal, inbox, process, &message, words),
         Err(OutOfMemory) => Err(words_taken(alloc, process)),
     }
 }
