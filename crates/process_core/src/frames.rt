@@ -1,5 +1,6 @@
 //! The frames of a message, as bytes.
 ghost use Rattle.std.specs.Prelude.{◌≡◌, [], ◌∷◌, IfOk, None, codes, ◌++◌};
+ghost use Rattle.serde_json.specs.Written.{compact_text};
 ghost use Rattle.diff_tree.specs.Frame as model;
 ghost use Rattle.doc_model.specs.Process.{frame_of, reply_to};
 ghost use Rattle.doc_model.specs.Journal.{spelled};
@@ -9,7 +10,7 @@ ghost use Rattle.wire_v2.specs.FrameLaws.{BodyStandsFor};
 use live_page::LivePage;
 use std::alloc::Global;
 use text_core::{Bytes, Frames, OutOfMemory, Seq, Text};
-use wire_v2::{Frame, FrameBody, MessageHead, write_frame};
+use wire_v2::{Frame, FrameBody, MessageHead, frames_agree, write_frame};
 
 // A text or null, copied.
 fn reference_copy(alloc: Global, reference: &Option<Text>) -> Result<Option<Text>, OutOfMemory>
@@ -19,14 +20,6 @@ fn reference_copy(alloc: Global, reference: &Option<Text>) -> Result<Option<Text
         Some(text) => Ok(Some(text.copy(alloc)?)),
         None => Ok(None),
     }
-}
-
-fn alone(alloc: Global, bytes: Bytes) -> Result<Frames, OutOfMemory>
-    ensures { IfOk result (λ s. s ≡ bytes ∷ []) }
-{
-    let mut list = Seq::new(alloc);
-    list.push(bytes)?;
-    Ok(list)
 }
 
 // One frame.
@@ -39,14 +32,33 @@ fn one_frame(
 ) -> Result<Frames, OutOfMemory>
     ensures { IfOk result (λ fs. (b : model.FrameBody) → BodyStandsFor body b → fs ≡ spelled (frame_of join_ref.now reference.now topic.now b ∷ [])) }
 {
+    let join_ref = reference_copy(alloc, join_ref)?;
+    let reference = reference_copy(alloc, reference)?;
+    let topic = topic.copy(alloc)?;
+    let bytes = frame_bytes(alloc, join_ref, reference, topic, body)?;
+    let mut list = Seq::new(alloc);
+    list.push(bytes)?;
+    Ok(list)
+}
+
+fn frame_bytes(
+    alloc: Global,
+    join_ref: Option<Text>,
+    reference: Option<Text>,
+    topic: Text,
+    body: FrameBody,
+) -> Result<Bytes, OutOfMemory>
+    ensures { IfOk result (λ t. (b : model.FrameBody) → BodyStandsFor body b → t ≡ compact_text (model.frame_json (frame_of join_ref reference topic b))) }
+{
+    frames_agree();
     let frame = Frame {
-        join_ref: reference_copy(alloc, join_ref)?,
-        reference: reference_copy(alloc, reference)?,
-        topic: topic.copy(alloc)?,
+        join_ref,
+        reference,
+        topic,
         body,
     };
     let bytes = write_frame(alloc, &frame)?;
-    alone(alloc, bytes)
+    Ok(bytes)
 }
 
 /// The reply to a message.
@@ -95,7 +107,7 @@ pub(crate) fn followed_by(frames: Frames, later: Frames) -> Result<Frames, OutOf
     ensures { IfOk result (λ fs. fs ≡ frames ++ later) }
 {
     let mut frames = frames;
-    for frame in later.into_vec() {
+    'later: for frame in later.into_vec() {
         frames.push(frame)?;
     }
     Ok(frames)

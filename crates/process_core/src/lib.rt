@@ -2,15 +2,18 @@
 #![tactic(auto)]
 
 mod answering;
+mod diffs;
 mod frames;
 mod fresh;
 mod join;
 mod leave;
 mod outcome;
 mod process;
+mod shown;
 mod turn;
 
 pub use answering::answer;
 pub use outcome::Outcome;
 pub use process::{Process, Up};
+pub use shown::page_text;
 pub use turn::told;

@@ -1,0 +1,18 @@
+use Rattle.std.proofs.Common.{◌≡◌, [], ◌∷◌, map, None, true, false, if◌then◌else◌, sym, ◌∙◌, ap, refl}
+use Rattle.diff_tree.specs.Frame as model
+use Rattle.wire_v2.specs.FrameData.{pushed_of}
+use Rattle.process_core.proofs.Plain.{nothing_is, page_is}
+use Rattle.process_core.proofs.diffs.reply_body.Goals as goal
+
+pub returns-then-is_nothing : goal.returns-then-is_nothing
+returns-then-is_nothing c d plain is =
+    ap (λ b. if b then model.empty else model.changed d (map pushed_of c.args.events))
+    (sym (nothing_is d c.args.part c.args.events plain is) ∙ sym c.is_nothing.ensures ∙ c.if-is_nothing.true)
+
+pub returns : goal.returns
+returns c d plain is = (
+  d,
+  c.new-diff.ensures.data ∙ is ∙ page_is d plain,
+  ap (λ b. if b then model.empty else model.changed d (map pushed_of c.args.events))
+      (sym (nothing_is d c.args.part c.args.events plain is) ∙ sym c.is_nothing.ensures ∙ c.if-is_nothing.false),
+)

@@ -1,0 +1,16 @@
+use Rattle.std.proofs.Common.{[], None, ap, if◌then◌else◌}
+use Rattle.value_core.specs.View.{view}
+use Rattle.wire_v2.specs.View.{head_view}
+use Rattle.doc_model.specs.Effects.{Waiting}
+use Rattle.doc_model.specs.Process.{Page, ProcessState, unchanged, is_of, step_event}
+use Rattle.live_page.specs.World.{world_of}
+use Rattle.process_core.specs.declared.process.Process.{Process}
+use Rattle.process_core.proofs.Lifting.{lift_up}
+use Rattle.process_core.proofs.turn.event.Goals as goal
+
+pub returns-in_ok-outcome-in-Some-clause-ok : goal.returns-in_ok-outcome-in-Some-clause-ok
+returns-in_ok-outcome-in-Some-clause-ok g c =
+    let h = head_view c.args.head.now in
+    lift_up c.args.app.now.compiled c.args.process.now c.put_down.new.process c.in-Some.up c.heard_event.new.page c.args.free
+    (λ s w p. if is_of p h then step_event (world_of g.V.Views.meaning c.args.app.now) s p w h c.args.name.now (view c.args.value.now) None else unchanged s w [])
+    c.in_ok-outcome-in-Some.outcome c.in-Some.is (ap (λ (k : Process). k.generation) c.put_down.ensures) (ap (λ (k : Process). k.up) c.put_down.ensures) c.in_ok-outcome-in-Some.ensures
