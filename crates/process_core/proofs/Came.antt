@@ -14,6 +14,8 @@ use Rattle.diff_tree.specs.Spelling.{Pushed}
 use Rattle.diff_tree.specs.declared.part.Part.{Part}
 use Rattle.wire_v2.specs.Message.{MessageHead}
 use Rattle.wire_v2.specs.FrameData.{pushed_of}
+use Rattle.wire_v2.specs.declared.push.Push.{Push}
+use Rattle.machine_api.specs.declared.machine.Action as asked
 use Rattle.diff_render.specs.Renders.{present, whole_json}
 use Rattle.effects_apply.specs.declared.rest.Rest.{Rest as Beside}
 use Rattle.effects_apply.specs.Applied.{rest_view, CountsFree, action_view}
@@ -38,20 +40,30 @@ use Rattle.process_core.proofs.Left.{answers_by, down}
 use Rattle.process_core.proofs.Stays.{StaysOn, joined_stays}
 use Rattle.process_core.proofs.Whole.{page_is_root}
 
+-- the rest by its parts
+abbrev rest_by : List Waiting → ℕ → List Stored → List asked.Action → List Push → Rest
+rest_by w g vs as' es = record { generation = g; inbox = w ++ map (λ v. sent g (view v)) vs; actions = map action_view as'; pushed = map pushed_of es }
+
+abbrev rest_with : ℕ → List Waiting → Rest
+rest_with g inbox = record { generation = g; inbox = inbox; actions = []; pushed = [] }
+
 -- the rest as a message begins
 pub rest_begins : (w : List Waiting) (g : ℕ) (r : Beside) → r.generation ≡ g → r.sent ≡ [] → r.actions ≡ [] → r.pushed ≡ [] → rest_view w r ≡ rest_of g w
 rest_begins w g r generation_is sent_is actions_is pushed_is =
-    ap (λ (x : Beside). rest_view w x) (whole r generation_is sent_is actions_is pushed_is) ∙ ap (λ (i : List Waiting). begun i) (append-nil w)
-  where
-    begun : List Waiting → Rest
-    begun i = record { generation = g; inbox = i; actions = []; pushed = [] }
-
-    whole : (r : Beside) → r.generation ≡ g → r.sent ≡ [] → r.actions ≡ [] → r.pushed ≡ [] → r ≡ record { generation = g; free = r.free; sent = []; actions = []; pushed = [] }
-    whole r a b c d = cc
+    ap (λ n. rest_by w n r.sent r.actions r.pushed) generation_is
+    ∙ ap (λ vs. rest_by w g vs r.actions r.pushed) sent_is
+    ∙ ap (λ as'. rest_by w g [] as' r.pushed) actions_is
+    ∙ ap (λ es. rest_by w g [] [] es) pushed_is
+    ∙ ap (λ inbox. rest_with g inbox) (append-nil w)
 
 -- so many more messages fit as a message begins
 pub counts_begin : (w : List Waiting) (g free : ℕ) (r : Beside) → rest_view w r ≡ rest_of g w → r.free ≡ free → Fits w free → CountsFree w r
 counts_begin w g free r is free_is fits = ap (λ (x : Rest). length x.inbox + r.free) is ∙ ap (λ n. length w + n) free_is ∙ fits
+
+-- a join, by what it is of
+pub joined_of : (world : World) (r : Route) (j j' : Option (List ℕ)) (t t' : List ℕ) (x x' : Rest) → j ≡ j' → t ≡ t' → x ≡ x' → joined_page world r j t x ≡ joined_page world r j' t' x'
+joined_of world r j j' t t' x x' j_is t_is x_is =
+    ap (λ k. joined_page world r k t x) j_is ∙ ap (λ u. joined_page world r j' u x) t_is ∙ ap (λ y. joined_page world r j' t' y) x_is
 
 -- a first page that does not come up
 pub begins_fault : (ns : List Node) (w : List Waiting) (given : Res Given) (f : PageFault) (rest : Beside) → Joins ns w given (Err f) rest → Begins ns w given (Err f)

@@ -63,6 +63,9 @@ pub record Fresh (ns : List Node) (page : LivePage) (t : Stepped) (f : Page → 
   pub stands : StandsFor ns page shown
   pub steps : t ≡ f shown
 
+not_some : (page : LivePage) → None ≡ Some page → ⊥
+not_some page h = cc
+
 fresh_by : (ns : List Node) (u : Up) (p : Page) (page : LivePage) (s : ProcessState) (w : List Waiting) (f : Page → Stepped) (b c : Bool)
     → UpFor ns u p → b ≡ c → (if c then Some u.page else None) ≡ Some page → Fresh ns page (if b then f p else unchanged s w []) f
 fresh_by ns u p page s w f b true up is some =
@@ -72,7 +75,7 @@ fresh_by ns u p page s w f b false up is some = cc
 
 fresh_at : (ns : List Node) (h : MessageHead) (page : LivePage) (s : ProcessState) (w : List Waiting) (f : Page → Stepped) (k : Option Up) (o : Option Page)
     → UpStands ns k o → fresh_page k h ≡ Some page → Fresh ns page (at_page s w (head_view h) f o) f
-fresh_at ns h page s w f None o up some = cc
+fresh_at ns h page s w f None o up some = absurd (not_some page some)
 fresh_at ns h page s w f (Some u) (Some p) up some = fresh_by ns u p page s w f (is_of p (head_view h)) (is_of_kept u.page h) up (same_test ns u p up h) some
 fresh_at ns h page s w f (Some u) None up some = absurd up
 

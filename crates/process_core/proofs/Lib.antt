@@ -1,10 +1,10 @@
+pub mod Whole
+pub mod Stays
+pub mod Left
+pub mod Came
 pub mod Plain
 pub mod Turning
 pub mod Settling
 pub mod Lifting
 pub mod Texts
 pub mod Arms
-pub mod Whole
-pub mod Stays
-pub mod Left
-pub mod Came
