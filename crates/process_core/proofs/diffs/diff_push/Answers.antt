@@ -1,4 +1,4 @@
-use Rattle.std.proofs.Common.{◌≡◌, [], ◌∷◌, map, None, true, false, if◌then◌else◌, sym, ◌∙◌, ap, refl}
+use Rattle.std.proofs.Common.{[], ◌∷◌, map, None, if◌then◌else◌, sym, ◌∙◌, ap, refl}
 use Rattle.diff_tree.specs.Frame as model
 use Rattle.wire_v2.specs.FrameData.{pushed_of}
 use Rattle.doc_model.specs.Process.{frame_of}

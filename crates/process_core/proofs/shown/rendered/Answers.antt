@@ -1,4 +1,4 @@
-use Rattle.std.proofs.Common.{◌≡◌, ◌+◌, ℕ, List, length, sym, ap, ◌∙◌}
+use Rattle.std.proofs.Common.{◌+◌, ℕ, List, length, sym, ap, ◌∙◌}
 use Rattle.slot_compile.proofs.Weaves.{statics_weave}
 use Rattle.slot_compile.specs.Template.{places_of, weave}
 use Rattle.slot_compile.specs.Rendering.{on_ok, place_texts}
