@@ -1,3 +1,4 @@
 pub mod Goes
 pub mod Answered
 pub mod Later
+pub mod Tail

@@ -1,4 +1,4 @@
-use Rattle.std.proofs.Common.{◌≡◌, ◌+◌, ◌-◌, ℕ, List, [], ◌∷◌, ◌++◌, map, length, refl, sym, ap, ◌∙◌, subst, arith}
+use Rattle.std.proofs.Common.{min, ◌≡◌, ◌+◌, ◌-◌, ℕ, List, [], ◌∷◌, ◌++◌, map, length, refl, sym, ap, ◌∙◌, subst, arith}
 use Rattle.std.specs.Arc.{arc_value}
 use Rattle.std.specs.VecDeque.{deque_len}
 use Rattle.machine_api.specs.declared.machine.Handled.{Handled}
@@ -12,8 +12,10 @@ use Rattle.session_core.specs.declared.entry.Waiting.{Waiting}
 use Rattle.session_core.specs.Entries.{waiting_view}
 use Rattle.session_core.specs.Handles.{HandlesFront}
 use Rattle.session_core.specs.Written.{sent_under, told_as}
+use Rattle.session_core.specs.Machine.{journal_frames}
+use Rattle.session_core.proofs.Tail.{counted}
 use Rattle.session_core.proofs.Goes.{machine, Stands, handled, fell, stands_as}
-use Rattle.session_core.proofs.Answered.{tells_handled, tells_fell, none_waits}
+use Rattle.session_core.proofs.Answered.{tells_handled}
 use Rattle.session_core.proofs.session.Session.handle.Goals as goal
 
 pub invariant_of-self-in-Ok : goal.invariant_of-self-in-Ok
@@ -39,6 +41,7 @@ invariant_of-self-in-Ok g c =
       state = u.state;
       inbox = u.inbox_is;
       size = u.size;
+      count = c.write_outcome.ensures.count ∙ counted i.journal.items c.args.by (entry.Handled o.frames) i.frame_count v.count ∙ ap (λ (xs : List (ℕ × Entry)). min (length (journal_frames xs)) 18446744073709551615) (sym journal);
       room = omega (arith, c.write_outcome.ensures.journal_len, c.write_outcome.ensures.inbox_len, c.write_outcome.ensures.capacity, c.in-Ok.ensures.journal_room);
       joins = omega (arith, v.joins, c.in-Ok.ensures.generation, c.in-Ok.ensures.journal_len, c.write_outcome.ensures.journal_len);
       waits = omega (arith, c.in-Ok.ensures.fits, c.in-Ok.ensures.inbox_len, c.write_outcome.ensures.inbox_len);
@@ -63,6 +66,7 @@ invariant_of-self-in-Err g c =
       state = u.state;
       inbox = u.inbox_is;
       size = u.size;
+      count = c.write_fall.ensures.count ∙ counted i.journal.items c.args.by (entry.Fell words) i.frame_count v.count ∙ ap (λ (xs : List (ℕ × Entry)). min (length (journal_frames xs)) 18446744073709551615) (sym journal);
       room = omega (arith, c.write_fall.ensures.journal_len, c.write_fall.ensures.capacity, c.in-Err.ensures.room);
       joins = omega (arith, v.joins, generation, c.in-Err.ensures.journal_len, c.write_fall.ensures.journal_len);
       waits = omega (arith, v.waits, c.in-Some.ensures.len, c.in-Err.ensures.inbox_len);
