@@ -2,3 +2,4 @@ pub mod Goes
 pub mod Answered
 pub mod Later
 pub mod Tail
+pub mod Within

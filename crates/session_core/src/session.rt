@@ -30,6 +30,7 @@ pub struct Session<V: Views> {
     alloc: Global,
     app: Arc<App<V>>,
     journal: Vec<(u32, Entry)>,
+    // The journal's kept size in bytes, and how many frames it holds; each stays at the largest number.
     kept: u64,
     frame_count: u64,
     inbox: VecDeque<Waiting>,
@@ -82,7 +83,8 @@ impl<V: Views> Session<V> {
         Ok(place)
     }
 
-    /// Handles the message at the front, under the number of a pass.
+    /// Handles the message at the front, under the number of a pass. Where memory is wanting, the process goes down with
+    /// its last words, and `Fell` is answered.
     pub fn handle(&mut self, by: u32) -> Handled
         ensures { HandlesFront V.meaning by self.old result self.new }
     {
