@@ -1,5 +1,5 @@
 -- What the calls on a session tell of it.
-use Rattle.std.proofs.Common.{◌≡◌, ℕ, ◌+◌, ◌<◌, ◌≤◌, min, arith, List, [], ◌∷◌, ◌++◌, map, length, Some, Bool, true, false, Result, Ok, Err, refl, sym, ap, ◌∙◌, codes}
+use Rattle.std.proofs.Common.{◌≡◌, ℕ, ◌+◌, ◌<◌, ◌≤◌, min, arith, List, [], ◌∷◌, ◌++◌, map, length, Some, Bool, true, false, Ok, Err, refl, sym, ap, ◌∙◌, codes}
 use Rattle.view_api.specs.Meaning.{HandlerMeaning}
 use Rattle.live_page.specs.declared.app.App.{App}
 use Rattle.process_core.specs.declared.process.Process.{Process}
@@ -12,7 +12,7 @@ use Rattle.session_core.specs.declared.entry.Entry.{Entry}
 use Rattle.session_core.specs.declared.entry.Entry.TheVariants as entry
 use Rattle.session_core.specs.declared.entry.Waiting.{Waiting}
 use Rattle.session_core.specs.Entries.{waiting_view, inbox_view}
-use Rattle.session_core.specs.Machine.{Machine, standing_of, front_step, kept_size}
+use Rattle.session_core.specs.Machine.{front_step, kept_size}
 use Rattle.machine_api.specs.declared.machine.PostFault.{PostFault}
 use Rattle.machine_api.specs.declared.machine.PostFault.TheVariants.{Full, JournalFull, OutOfMemory}
 use Rattle.machine_api.specs.Steps.{Fits, Posts}

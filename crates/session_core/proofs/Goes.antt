@@ -1,6 +1,6 @@
 -- One entry more keeps what a session keeps.
 use Rattle.std.proofs.Common.{◌≡◌, ℕ, ◌+◌, ◌<◌, ◌≤◌, min, arith, List, [], ◌∷◌, ◌++◌, map, length, Option, Some, None, refl, sym, ap, ◌∙◌, subst, codes}
-use Rattle.std.proofs.lemmas.List.{map-append, length-map}
+use Rattle.std.proofs.lemmas.List.{map-append, length-map, length-append}
 use Rattle.value_core.specs.View.{view}
 use Rattle.value_core.specs.declared.value.Value.{Value}
 use Rattle.ast_core.specs.Places.{streams_in, Once}
@@ -27,6 +27,7 @@ use Rattle.session_core.specs.declared.entry.Waiting.{Waiting}
 use Rattle.session_core.specs.declared.entry.Waiting.TheVariants as waiting
 use Rattle.session_core.specs.Entries.{entry_view, journal_view, waiting_view, inbox_view}
 use Rattle.session_core.specs.Machine.{Machine, standing_of, kept_size}
+use Rattle.session_core.proofs.Within.{few_wait}
 use Rattle.session_core.specs.Written.{grown, sent_under}
 
 abbrev pub machine : {V : Type 0} → App V → List (ℕ × Entry) → Machine V
@@ -130,6 +131,18 @@ module _ {V : Type 0} (meaning : V → HandlerMeaning) (app : App V) where
       → AnswersStep app.compiled p free (λ s w. step_waiting world s w (waiting_view m)) q o → length rest + free ≡ 1024
       → Answers app.compiled (inbox_view rest) (step_waiting world (standing es).state (inbox_view rest) (waiting_view m)) q o
   front_answer es kept p q m rest free o s a fits = a (standing es).state (inbox_view rest) s.state (ap (λ n. n + free) (length-map rest waiting_view) ∙ fits)
+
+  -- with what the process sent itself, no more wait than may
+  pub few_after : (es : List (ℕ × Entry)) (kept : ℕ) (p q : Process) (m : Waiting) (rest : List Waiting) (free : ℕ) (o : Outcome) → Stands meaning app es (m ∷ rest) kept p
+      → AnswersStep app.compiled p free (λ s w. step_waiting world s w (waiting_view m)) q o → length rest + free ≡ 1024 → length rest + length o.sent ≤ 1024
+  few_after es kept p q m rest free o s a fits =
+      let x = front_answer es kept p q m rest free o s a fits in
+      let before = length-map rest waiting_view in
+      let few : length (inbox_view rest) ≤ 1024 = omega (arith, before, fits) in
+      let after = few_wait world (standing es).state (inbox_view rest) few (waiting_view m) in
+      let whole = ap length x.waits ∙ length-append (inbox_view rest) (map (λ v. model.sent q.generation (view v)) o.sent) in
+      let sent = length-map o.sent (λ v. model.sent q.generation (view v)) in
+      omega (arith, before, after, whole, sent)
 
   -- a message that was handled
   pub handled : (es : List (ℕ × Entry)) (kept : ℕ) (p q : Process) (m : Waiting) (rest : List Waiting) (free by : ℕ) (o : Outcome) → Stands meaning app es (m ∷ rest) kept p

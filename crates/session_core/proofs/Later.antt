@@ -1,11 +1,11 @@
 -- The frames of a journal but for the first ones, and the length of frames.
-use Rattle.std.proofs.Common.{◌≡◌, ℕ, zero, suc, ◌+◌, ◌-◌, ◌<◌, ◌≤◌, min, List, [], ◌∷◌, ◌++◌, length, drop, get_or, refl, ap, sym, ◌∙◌, arith}
+use Rattle.std.proofs.Common.{◌≡◌, ℕ, zero, suc, ◌+◌, ◌-◌, ◌<◌, ◌≤◌, List, [], ◌∷◌, ◌++◌, length, drop, get_or, refl, ap, sym, ◌∙◌, arith}
 use Rattle.std.proofs.lemmas.List.{drop_more}
 use Rattle.doc_model.specs.Journal.{total_length}
 use Rattle.session_core.specs.declared.entry.Entry.{Entry}
 use Rattle.session_core.specs.Machine.{frames_in, journal_frames}
 
-drop_past : {A : Type 0} (n : ℕ) (xs ys : List A) → length xs ≤ n → drop n (xs ++ ys) ≡ drop (n - length xs) ys
+pub drop_past : {A : Type 0} (n : ℕ) (xs ys : List A) → length xs ≤ n → drop n (xs ++ ys) ≡ drop (n - length xs) ys
 drop_past n [] ys h = let e : n - 0 ≡ n = omega arith in rw e refl
 drop_past zero (x ∷ xs) ys h = absurd (omega (arith, h))
 drop_past (suc n) (x ∷ xs) ys h = drop_past n xs ys (omega (arith, h)) ∙ ap (λ k. drop k ys) (omega arith)

@@ -1,10 +1,9 @@
 -- What the calls on a session answer.
-use Rattle.std.specs.Prelude.{◌≡◌, ◌≢◌, ℕ, true, false, List, [], ◌∷◌, ◌++◌, map, Some, codes}
+use Rattle.std.specs.Prelude.{◌≡◌, ◌≢◌, ℕ, true, false, [], ◌∷◌, ◌++◌, map, Some, codes}
 use Rattle.view_api.specs.Meaning.{HandlerMeaning}
 use Rattle.machine_api.specs.declared.machine.Handled.{Handled}
 use Rattle.machine_api.specs.declared.machine.Handled.TheVariants as handled
 use Rattle.effects_apply.specs.Applied.{action_view}
-use Rattle.live_page.specs.World.{world_of}
 use Rattle.doc_model.specs.Journal.{fault_frames, spelled}
 use Rattle.session_core.specs.declared.entry.Entry.{Entry}
 use Rattle.session_core.specs.declared.entry.Entry.TheVariants as entry

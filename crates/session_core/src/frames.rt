@@ -1,5 +1,5 @@
 //! The frames of a journal, and their size.
-ghost use Rattle.std.specs.Prelude.{◌≡◌, ◌++◌, drop, min, IfOk, OnOk};
+ghost use Rattle.std.specs.Prelude.{◌≡◌, ◌-◌, ◌≤◌, ◌++◌, drop, length, min, IfOk, OnOk};
 ghost use Rattle.doc_model.specs.Journal.{total_length};
 ghost use Rattle.session_core.specs.Machine.{frames_in, journal_frames};
 
@@ -47,12 +47,8 @@ fn frames_in(entry: &Entry) -> &[Bytes]
     }
 }
 
-/// The frames of a journal but for the first ones.
-pub(crate) fn later_frames(
-    alloc: Global,
-    journal: &[(u32, Entry)],
-    from: usize,
-) -> Result<Frames, OutOfMemory>
+// The frames of a journal but for the first ones.
+fn later_frames(alloc: Global, journal: &[(u32, Entry)], from: usize) -> Result<Frames, OutOfMemory>
     ensures { IfOk result (λ found. found ≡ drop from (journal_frames journal.now)) }
 {
     let mut found = Seq::new(alloc);
@@ -67,4 +63,48 @@ pub(crate) fn later_frames(
         skipped = 0;
     }
     Ok(found)
+}
+
+fn count_in(numbered: &(u32, Entry)) -> usize
+    ensures { result ≡ length (frames_in numbered.now.1) }
+{
+    let (_, entry) = numbered;
+    frames_in(entry).len()
+}
+
+// Where the last frames of a journal begin, so many of them: the entry, and how many of its frames lie before.
+fn last_frames_at(journal: &[(u32, Entry)], wanted: usize) -> (usize, usize)
+    ensures within { result.0 ≤ length journal.now }
+    ensures found { drop result.1 (journal_frames (drop result.0 journal.now)) ≡ drop (length (journal_frames journal.now) - wanted) (journal_frames journal.now) }
+{
+    let mut start = journal.len();
+    let mut missing = wanted;
+    while start > 0 {
+        start -= 1;
+        let count = count_in(&journal[start]);
+        if count >= missing {
+            return (start, count - missing);
+        }
+        missing -= count;
+    }
+    (0, 0)
+}
+
+/// The frames of a journal from number `from` on, the first having the number 0. The journal holds `count` frames, or
+/// more where `count` is the largest number. They are looked for from the end, so that the latest are found at once.
+pub(crate) fn frames_from(
+    alloc: Global,
+    journal: &[(u32, Entry)],
+    count: u64,
+    from: u64,
+) -> Result<Frames, OutOfMemory>
+    requires { count ≡ min (length (journal_frames journal.now)) 18446744073709551615 }
+    ensures { IfOk result (λ found. found ≡ drop from (journal_frames journal.now)) }
+{
+    if count == u64::MAX {
+        return later_frames(alloc, journal, from as usize);
+    }
+    let wanted = count.saturating_sub(from);
+    let (start, skipped) = last_frames_at(journal, wanted as usize);
+    later_frames(alloc, &journal[start..], skipped)
 }

@@ -66,11 +66,9 @@ fn step<V: Views>(
 fn make_room(
     journal: &mut Vec<(u32, Entry)>,
     inbox: &mut VecDeque<Waiting>,
-    free: u32,
     sent: usize,
 ) -> Result<(), OutOfMemory>
     requires { vec_len journal.old + deque_len inbox.old < vec_capacity journal.old }
-    ensures fits { OnOk result (sent ≤ free) }
     ensures inbox_room { OnOk result (deque_len inbox.new + sent ≤ deque_capacity inbox.new) }
     ensures journal_room { OnOk result (vec_len journal.new + deque_len inbox.new + sent < vec_capacity journal.new) }
     ensures room { vec_len journal.new + deque_len inbox.new < vec_capacity journal.new }
@@ -79,10 +77,6 @@ fn make_room(
     ensures journal_len { vec_len journal.new ≡ vec_len journal.old }
     ensures inbox_len { deque_len inbox.new ≡ deque_len inbox.old }
 {
-    // A message never sends more than fits.
-    if sent > free as usize {
-        return Err(OutOfMemory);
-    }
     inbox.reserve(sent)?;
     journal.reserve(inbox.len() + sent + 1)?;
     Ok(())
@@ -92,14 +86,12 @@ fn make_room(
 fn with_room(
     journal: &mut Vec<(u32, Entry)>,
     inbox: &mut VecDeque<Waiting>,
-    free: u32,
     outcome: Outcome,
     words: Frames,
 ) -> Result<Outcome, Frames>
     requires { vec_len journal.old + deque_len inbox.old < vec_capacity journal.old }
     ensures ok { IfOk result (λ o. o ≡ outcome) }
     ensures err { IfErr result (λ frames. frames ≡ words) }
-    ensures fits { OnOk result (length outcome.sent ≤ free) }
     ensures inbox_room { OnOk result (deque_len inbox.new + length outcome.sent ≤ deque_capacity inbox.new) }
     ensures journal_room { OnOk result (vec_len journal.new + deque_len inbox.new + length outcome.sent < vec_capacity journal.new) }
     ensures room { vec_len journal.new + deque_len inbox.new < vec_capacity journal.new }
@@ -108,7 +100,7 @@ fn with_room(
     ensures journal_len { vec_len journal.new ≡ vec_len journal.old }
     ensures inbox_len { deque_len inbox.new ≡ deque_len inbox.old }
 {
-    match make_room(journal, inbox, free, outcome.sent.len()) {
+    match make_room(journal, inbox, outcome.sent.len()) {
         Ok(()) => Ok(outcome),
         Err(OutOfMemory) => Err(words),
     }
@@ -129,7 +121,6 @@ fn outcome_or<V: Views>(
     requires generation { process.old.generation < 18446744073709551615 }
     ensures ok { IfOk result (λ o. AnswersStep app.now.compiled process.old (1024 - deque_len inbox.old) (λ s w. step_waiting (world_of V.meaning app.now) s w (waiting_view message.now)) process.new o) }
     ensures err { IfErr result (λ frames. frames ≡ words) }
-    ensures fits { IfOk result (λ o. deque_len inbox.old + length o.sent ≤ 1024) }
     ensures inbox_room { IfOk result (λ o. deque_len inbox.new + length o.sent ≤ deque_capacity inbox.new) }
     ensures journal_room { IfOk result (λ o. vec_len journal.new + deque_len inbox.new + length o.sent < vec_capacity journal.new) }
     ensures room { vec_len journal.new + deque_len inbox.new < vec_capacity journal.new }
@@ -141,7 +132,7 @@ fn outcome_or<V: Views>(
 {
     let free = 1024 - inbox.len() as u32;
     match step(alloc, app, process, free, message) {
-        Ok(outcome) => with_room(journal, inbox, free, outcome, words),
+        Ok(outcome) => with_room(journal, inbox, outcome, words),
         Err(OutOfMemory) => Err(words),
     }
 }
@@ -161,7 +152,6 @@ pub(crate) fn outcome_of<V: Views>(
     requires generation { process.old.generation < 18446744073709551615 }
     ensures ok { IfOk result (λ o. AnswersStep app.now.compiled process.old (1024 - deque_len inbox.old) (λ s w. step_waiting (world_of V.meaning app.now) s w (waiting_view message)) process.new o) }
     ensures err { IfErr result (λ frames. frames ≡ words_of process.old) }
-    ensures fits { IfOk result (λ o. deque_len inbox.old + length o.sent ≤ 1024) }
     ensures inbox_room { IfOk result (λ o. deque_len inbox.new + length o.sent ≤ deque_capacity inbox.new) }
     ensures journal_room { IfOk result (λ o. vec_len journal.new + deque_len inbox.new + length o.sent < vec_capacity journal.new) }
     ensures room { vec_len journal.new + deque_len inbox.new < vec_capacity journal.new }

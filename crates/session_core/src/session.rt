@@ -8,7 +8,7 @@ ghost use Rattle.session_core.specs.Handles.{HandlesFront};
 ghost use Rattle.process_core.specs.Shown.{ShowsUp};
 
 use crate::entry::{Entry, Waiting};
-use crate::frames::later_frames;
+use crate::frames::frames_from;
 use crate::message::outcome_of;
 use crate::post::{may_post, queue};
 use crate::written::{write_fall, write_outcome};
@@ -30,7 +30,9 @@ pub struct Session<V: Views> {
     alloc: Global,
     app: Arc<App<V>>,
     journal: Vec<(u32, Entry)>,
+    // The journal's kept size in bytes, and how many frames it holds; each stays at the largest number.
     kept: u64,
+    frame_count: u64,
     inbox: VecDeque<Waiting>,
     process: Process,
 }
@@ -57,6 +59,7 @@ impl<V: Views> Session<V> {
             app,
             journal: Vec::new(alloc),
             kept: 0,
+            frame_count: 0,
             inbox: VecDeque::new(alloc),
             process: Process {
                 generation: 0,
@@ -80,7 +83,8 @@ impl<V: Views> Session<V> {
         Ok(place)
     }
 
-    /// Handles the message at the front, under the number of a pass.
+    /// Handles the message at the front, under the number of a pass. Where memory is wanting, the process goes down with
+    /// its last words, and `Fell` is answered.
     pub fn handle(&mut self, by: u32) -> Handled
         ensures { HandlesFront V.meaning by self.old result self.new }
     {
@@ -100,6 +104,7 @@ impl<V: Views> Session<V> {
                 &mut self.journal,
                 &mut self.inbox,
                 &mut self.kept,
+                &mut self.frame_count,
                 self.process.generation,
                 by,
                 outcome,
@@ -108,6 +113,7 @@ impl<V: Views> Session<V> {
                 write_fall(
                     &mut self.journal,
                     &mut self.kept,
+                    &mut self.frame_count,
                     &mut self.process,
                     generation,
                     by,
@@ -122,7 +128,7 @@ impl<V: Views> Session<V> {
     pub fn frames_from(&self, alloc: Global, from: u64) -> Result<Frames, OutOfMemory>
         ensures { IfOk result (λ found. found ≡ drop from (journal_frames self.now.journal)) }
     {
-        later_frames(alloc, self.journal.as_slice(), from as usize)
+        frames_from(alloc, self.journal.as_slice(), self.frame_count, from)
     }
 
     /// Whether no message waits.

@@ -1,5 +1,5 @@
 //! What a message leaves in the journal and in the inbox.
-ghost use Rattle.std.specs.Prelude.{◌≡◌, ◌+◌, ◌<◌, ◌≤◌, [], ◌∷◌, ◌++◌, length, map, None, vec_len, vec_capacity};
+ghost use Rattle.std.specs.Prelude.{◌≡◌, ◌+◌, ◌<◌, ◌≤◌, [], ◌∷◌, ◌++◌, length, map, min, None, vec_len, vec_capacity};
 ghost use Rattle.std.specs.VecDeque.{deque_len, deque_capacity};
 ghost use Rattle.session_core.specs.Written.{grown, told_as, sent_under};
 
@@ -45,6 +45,7 @@ pub(crate) fn write_outcome(
     journal: &mut Vec<(u32, Entry)>,
     inbox: &mut VecDeque<Waiting>,
     kept: &mut u64,
+    count: &mut u64,
     generation: u64,
     by: u32,
     outcome: Outcome,
@@ -54,6 +55,7 @@ pub(crate) fn write_outcome(
     ensures journal { journal.new.items ≡ journal.old.items ++ (by, Entry.Handled outcome.frames) ∷ [] }
     ensures inbox { inbox.new.items ≡ inbox.old.items ++ map (sent_under generation) outcome.sent }
     ensures kept { kept.new ≡ grown kept.old outcome.frames }
+    ensures count { count.new ≡ min (count.old + length outcome.frames) 18446744073709551615 }
     ensures journal_len { vec_len journal.new ≡ vec_len journal.old + 1 }
     ensures inbox_len { deque_len inbox.new ≡ deque_len inbox.old + length outcome.sent }
     ensures capacity { vec_capacity journal.new ≡ vec_capacity journal.old }
@@ -66,6 +68,7 @@ pub(crate) fn write_outcome(
         crashed,
     } = outcome;
     *kept = with_frames(*kept, &frames);
+    *count = count.saturating_add(frames.len() as u64);
     queue_sent(inbox, generation, sent);
     journal.push_reserved((by, Entry::Handled(frames)));
     told_as(crashed, actions)
@@ -75,6 +78,7 @@ pub(crate) fn write_outcome(
 pub(crate) fn write_fall(
     journal: &mut Vec<(u32, Entry)>,
     kept: &mut u64,
+    count: &mut u64,
     process: &mut Process,
     generation: u64,
     by: u32,
@@ -83,11 +87,13 @@ pub(crate) fn write_fall(
     requires { vec_len journal.old < vec_capacity journal.old }
     ensures journal { journal.new.items ≡ journal.old.items ++ (by, Entry.Fell words) ∷ [] }
     ensures kept { kept.new ≡ grown kept.old words }
+    ensures count { count.new ≡ min (count.old + length words) 18446744073709551615 }
     ensures process { process.new ≡ record { generation = generation; up = None } }
     ensures journal_len { vec_len journal.new ≡ vec_len journal.old + 1 }
     ensures capacity { vec_capacity journal.new ≡ vec_capacity journal.old }
 {
     *kept = with_frames(*kept, &words);
+    *count = count.saturating_add(words.len() as u64);
     process.generation = generation;
     process.up = None;
     journal.push_reserved((by, Entry::Fell(words)));

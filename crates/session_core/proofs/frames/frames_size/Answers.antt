@@ -1,4 +1,4 @@
-use Rattle.std.proofs.Common.{◌≡◌, ◌≤◌, [], drop, length, arith, ap}
+use Rattle.std.proofs.Common.{◌≡◌, [], drop, arith, ap}
 use Rattle.std.proofs.lemmas.List.{drop_all}
 use Rattle.doc_model.specs.Journal.{total_length}
 use Rattle.session_core.proofs.frames.frames_size.Goals as goal

@@ -1,4 +1,4 @@
-use Rattle.std.proofs.Common.{◌≡◌, ◌≤◌, length, drop, arith}
+use Rattle.std.proofs.Common.{◌≤◌, length, drop}
 use Rattle.session_core.specs.Machine.{frames_in, journal_frames}
 use Rattle.session_core.proofs.Later.{skips}
 use Rattle.session_core.proofs.frames.later_frames.Goals as goal

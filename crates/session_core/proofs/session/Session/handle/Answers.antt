@@ -1,4 +1,4 @@
-use Rattle.std.proofs.Common.{◌≡◌, ◌+◌, ◌-◌, ℕ, List, [], ◌∷◌, ◌++◌, map, length, refl, sym, ap, ◌∙◌, subst, arith}
+use Rattle.std.proofs.Common.{min, ◌≡◌, ◌+◌, ◌-◌, ℕ, List, [], ◌∷◌, ◌++◌, map, length, refl, sym, ap, ◌∙◌, subst, arith}
 use Rattle.std.specs.Arc.{arc_value}
 use Rattle.std.specs.VecDeque.{deque_len}
 use Rattle.machine_api.specs.declared.machine.Handled.{Handled}
@@ -12,8 +12,10 @@ use Rattle.session_core.specs.declared.entry.Waiting.{Waiting}
 use Rattle.session_core.specs.Entries.{waiting_view}
 use Rattle.session_core.specs.Handles.{HandlesFront}
 use Rattle.session_core.specs.Written.{sent_under, told_as}
-use Rattle.session_core.proofs.Goes.{machine, Stands, handled, fell, stands_as}
-use Rattle.session_core.proofs.Answered.{tells_handled, tells_fell, none_waits}
+use Rattle.session_core.specs.Machine.{journal_frames}
+use Rattle.session_core.proofs.Tail.{counted}
+use Rattle.session_core.proofs.Goes.{machine, Stands, few_after, handled, fell, stands_as}
+use Rattle.session_core.proofs.Answered.{tells_handled}
 use Rattle.session_core.proofs.session.Session.handle.Goals as goal
 
 pub invariant_of-self-in-Ok : goal.invariant_of-self-in-Ok
@@ -30,6 +32,7 @@ invariant_of-self-in-Ok g c =
     let ok = c.pop_front.new.self.ok.0 in
     let fits : length rest + (1024 - deque_len c.pop_front.new.self) ≡ 1024 = omega (arith, ok, v.waits, c.in-Some.ensures.len) in
     let a : AnswersStep app.compiled i.process (1024 - deque_len c.pop_front.new.self) (λ s w. step_waiting (world_of m app) s w (waiting_view c.in-Some.message)) q o = rw c.deref.ensures at c.in-Ok.ensures.ok in
+    let few = few_after m app i.journal.items i.kept i.process q c.in-Some.message rest (1024 - deque_len c.pop_front.new.self) o s a fits in
     let t = handled m app i.journal.items i.kept i.process q c.in-Some.message rest (1024 - deque_len c.pop_front.new.self) c.args.by o s a fits in
     let journal = c.write_outcome.ensures.journal ∙ ap (λ (xs : List (ℕ × Entry)). xs ++ (c.args.by, entry.Handled o.frames) ∷ []) c.in-Ok.ensures.journal in
     let inbox = c.write_outcome.ensures.inbox ∙ ap (λ (ws : List Waiting). ws ++ map (sent_under q.generation) o.sent) c.in-Ok.ensures.inbox in
@@ -39,9 +42,10 @@ invariant_of-self-in-Ok g c =
       state = u.state;
       inbox = u.inbox_is;
       size = u.size;
+      count = c.write_outcome.ensures.count ∙ counted i.journal.items c.args.by (entry.Handled o.frames) i.frame_count v.count ∙ ap (λ (xs : List (ℕ × Entry)). min (length (journal_frames xs)) 18446744073709551615) (sym journal);
       room = omega (arith, c.write_outcome.ensures.journal_len, c.write_outcome.ensures.inbox_len, c.write_outcome.ensures.capacity, c.in-Ok.ensures.journal_room);
       joins = omega (arith, v.joins, c.in-Ok.ensures.generation, c.in-Ok.ensures.journal_len, c.write_outcome.ensures.journal_len);
-      waits = omega (arith, c.in-Ok.ensures.fits, c.in-Ok.ensures.inbox_len, c.write_outcome.ensures.inbox_len);
+      waits = omega (arith, ok, few, c.in-Ok.ensures.inbox_len, c.write_outcome.ensures.inbox_len);
     }
 
 pub invariant_of-self-in-Err : goal.invariant_of-self-in-Err
@@ -63,6 +67,7 @@ invariant_of-self-in-Err g c =
       state = u.state;
       inbox = u.inbox_is;
       size = u.size;
+      count = c.write_fall.ensures.count ∙ counted i.journal.items c.args.by (entry.Fell words) i.frame_count v.count ∙ ap (λ (xs : List (ℕ × Entry)). min (length (journal_frames xs)) 18446744073709551615) (sym journal);
       room = omega (arith, c.write_fall.ensures.journal_len, c.write_fall.ensures.capacity, c.in-Err.ensures.room);
       joins = omega (arith, v.joins, generation, c.in-Err.ensures.journal_len, c.write_fall.ensures.journal_len);
       waits = omega (arith, v.waits, c.in-Some.ensures.len, c.in-Err.ensures.inbox_len);

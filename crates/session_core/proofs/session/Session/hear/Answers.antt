@@ -1,5 +1,9 @@
-use Rattle.std.proofs.Common.{◌≡◌, ◌<◌, length, Err, refl, sym, ap, ◌∙◌, arith, rules}
+use Rattle.std.proofs.Common.{ℕ, List, min, ◌≡◌, ◌<◌, length, Err, refl, sym, ap, ◌∙◌, arith, rules}
 use Rattle.std.specs.Arc.{arc_value}
+use Rattle.session_core.specs.declared.entry.Entry.{Entry}
+use Rattle.session_core.specs.declared.entry.Entry.TheVariants as entry
+use Rattle.session_core.specs.Machine.{journal_frames}
+use Rattle.session_core.proofs.Tail.{counted_none}
 use Rattle.session_core.proofs.Goes.{Stands, heard, stands_as}
 use Rattle.session_core.proofs.Answered.{refused, wanted, posted}
 use Rattle.session_core.proofs.session.Session.hear.Goals as goal
@@ -41,6 +45,7 @@ invariant_of-self-2 g c =
       state = u.state;
       inbox = u.inbox_is;
       size = u.size;
+      count = counted_none i.journal.items c.args.by (entry.Heard c.args.text.now) i.frame_count refl v.count ∙ ap (λ (xs : List (ℕ × Entry)). min (length (journal_frames xs)) 18446744073709551615) (sym c.in_ok-queue.ensures.journal);
       room = c.in_ok-queue.ensures.room;
       joins = omega (arith, v.joins, c.in_ok-queue.ensures.journal_len);
       waits = omega (arith, c.len.ensures, c.in_ok-may_post.ensures.inbox, c.in_ok-queue.ensures.inbox_len);
