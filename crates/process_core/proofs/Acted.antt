@@ -9,7 +9,7 @@ use Rattle.wire_v2.specs.declared.message.Message.{Message}
 use Rattle.wire_v2.specs.Message as model
 use Rattle.doc_model.specs.Effects.{Waiting}
 use Rattle.value_core.specs.Value.{Value}
-use Rattle.doc_model.specs.Process.{ProcessState, Stepped, if_fresh, step_event, step_message, value_of}
+use Rattle.doc_model.specs.Process.{ProcessState, Stepped, World, if_fresh, step_event, step_message, value_of}
 use Rattle.process_core.specs.Answering.{value_in}
 use Rattle.live_page.specs.declared.app.App.{App}
 use Rattle.live_page.specs.World.{world_of}
@@ -37,6 +37,16 @@ module _ {V : Type 0} (meaning : V → HandlerMeaning) (app : App V) (before aft
       → IfOk r (λ o. AnswersStep app.compiled before free (λ s w. step_message (world_of meaning app) s w (model.event h name v n)) after o)
   for_component h name v n m r is given =
       subst (λ (x : Option ℕ). IfOk r (λ o. AnswersStep app.compiled before free (λ s w. step_message (world_of meaning app) s w (model.event h name v x)) after o)) (sym is) given
+
+  -- the answer to an event of a component that is gone
+  pub for_absent : (h : model.MessageHead) (name : List ℕ) (v : model.EventValue) (n : ℕ) (r : Result Outcome OutOfMemory)
+      → IfOk r (λ o. (world : World) (ns : List Node) (free : ℕ) (name : List ℕ) (v : Value) (n : ℕ) → AnswersStep ns before free (λ s w. if_fresh s w h (λ p. step_event world s p w h name v (Some n))) after o)
+      → IfOk r (λ o. AnswersStep app.compiled before free (λ s w. step_message (world_of meaning app) s w (model.event h name v (Some n))) after o)
+  for_absent h name v n r given =
+      IfOk-weaker r (λ o. (world : World) (ns : List Node) (free : ℕ) (name : List ℕ) (v : Value) (n : ℕ) → AnswersStep ns before free (λ s w. if_fresh s w h (λ p. step_event world s p w h name v (Some n))) after o)
+      (λ o. AnswersStep app.compiled before free (λ s w. step_message (world_of meaning app) s w (model.event h name v (Some n))) after o)
+      (λ o any. any (world_of meaning app) app.compiled free name (value_of (world_of meaning app) v) n)
+      given
 
   -- the answer to an event of the view, by its value
   pub for_value : (h : model.MessageHead) (name : List ℕ) (v : model.EventValue) (x : Value) (r : Result Outcome OutOfMemory) → x ≡ value_in v
