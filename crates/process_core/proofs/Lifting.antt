@@ -1,5 +1,5 @@
 -- From the page that is up to the process.
-use Rattle.std.proofs.Common.{◌≡◌, ℕ, List, [], ◌∷◌, ◌++◌, map, Option, Some, None, Bool, true, false, if◌then◌else◌, refl, sym, ap, ◌∙◌, subst, codes}
+use Rattle.std.proofs.Common.{◌≡◌, ℕ, List, [], ◌∷◌, ◌++◌, map, Option, Some, None, Bool, false, if◌then◌else◌, refl, sym, ap, ◌∙◌, subst, codes}
 use Rattle.std.proofs.lemmas.List.{append-nil}
 use Rattle.value_core.specs.View.{view}
 use Rattle.value_core.specs.declared.value.Value.{Value as Stored}
@@ -14,7 +14,7 @@ use Rattle.process_core.specs.declared.process.Process.{Process}
 use Rattle.process_core.specs.declared.process.Up.{Up}
 use Rattle.process_core.specs.declared.outcome.Outcome.{Outcome}
 use Rattle.process_core.specs.Kept.{UpFor, UpStands, Keeps}
-use Rattle.process_core.specs.Answers.{Answers, Fits, AnswersStep}
+use Rattle.process_core.specs.Answers.{Answers, AnswersStep}
 use Rattle.process_core.specs.Turned.{StaysUp, PageAnswers, AnswersPage}
 
 -- a step where a page is up, and nothing where none is

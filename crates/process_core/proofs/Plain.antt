@@ -12,7 +12,7 @@ use Rattle.slot_compile.specs.declared.template.Node.{Node}
 use Rattle.slot_compile.specs.Template.{places_of as named}
 use Rattle.diff_tree.specs.Container.{is_none}
 use Rattle.diff_tree.specs.Client.{PageDiff}
-use Rattle.diff_tree.specs.Tree.{Change, Changes, no_changes, skip, change}
+use Rattle.diff_tree.specs.Tree.{Changes, no_changes, skip, change}
 use Rattle.diff_tree.specs.Spelling.{texts_json, change_json, changes_json, changed_json, with_components, page_diff_json}
 use Rattle.diff_tree.specs.Parts.{part_data, node_data, statics_of, places_of, place_data, part_step, place_step, places_json, seen}
 use Rattle.diff_tree.specs.declared.part.Part.{Part}
@@ -24,10 +24,10 @@ use Rattle.wire_v2.specs.declared.push.Push.{Push}
 use Rattle.doc_model.specs.Environment.{lookup}
 use Rattle.doc_model.specs.Evaluation.{Res, then_do, both, on_res, or_raise, printed}
 use Rattle.doc_model.specs.Lean.{is_empty}
-use Rattle.doc_model.specs.Trace.{Items, item, Item, met_text}
+use Rattle.doc_model.specs.Trace.{Items, item, met_text}
 use Rattle.doc_model.specs.Components.{parts, lean_parts, lean_diff}
 use Rattle.doc_model.specs.Process.{no_difference}
-use Rattle.diff_render.specs.Met.{Meets, item_of, items_of}
+use Rattle.diff_render.specs.Met.{Meets, items_of}
 use Rattle.diff_render.proofs.Items.{met_items}
 
 -- no component is met

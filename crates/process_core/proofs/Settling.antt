@@ -20,7 +20,7 @@ use Rattle.effects_apply.specs.Applied.{action_view, rest_view, CountsFree}
 use Rattle.doc_model.specs.Evaluation.{Res}
 use Rattle.doc_model.specs.Effects.{Rest, Waiting, sent}
 use Rattle.doc_model.specs.Components.{lean_diff}
-use Rattle.doc_model.specs.Process.{Page, ProcessState, Outcome, World, Stepped, view_turn, after_turn, rest_of, unchanged, frame_of, push_frames, same_reference, is_of}
+use Rattle.doc_model.specs.Process.{Page, ProcessState, Outcome, view_turn, after_turn, rest_of, unchanged, frame_of, push_frames, same_reference, is_of}
 use Rattle.doc_model.specs.Journal.{spelled}
 use Rattle.live_page.specs.declared.app.App.{App}
 use Rattle.live_page.specs.declared.page.LivePage.{LivePage}

@@ -1,12 +1,11 @@
 -- The full rendering of a page of texts is that of its template.
-use Rattle.std.proofs.Common.{◌≡◌, ◌≢◌, ℕ, suc, ◌+◌, ◌<◌, List, [], ◌∷◌, ◌++◌, length, drop, get_or, Option, Some, None, option_map, Result, Ok, Err, refl, sym, ap, ◌∙◌, subst, arith, append_assoc}
+use Rattle.std.proofs.Common.{◌≡◌, ℕ, suc, ◌+◌, List, [], ◌∷◌, ◌++◌, length, Option, Some, None, option_map, Ok, Err, refl, sym, ap, ◌∙◌, arith, append_assoc}
 use Rattle.text_core.specs.Escape.{escape_text}
 use Rattle.text_core.specs.declared.by_key.KeyValue.{KeyValue}
 use Rattle.text_core.specs.Keyed.{lookup as kept}
 use Rattle.value_core.specs.View.{view, assigns_view}
 use Rattle.value_core.specs.Print.{text_of_value}
 use Rattle.value_core.specs.declared.value.Value.{Value}
-use Rattle.value_core.specs.declared.raise.Raise.{Raise}
 use Rattle.value_core.specs.declared.raise.Raise.TheVariants.{NoAssign, NotPrintable}
 use Rattle.ast_core.specs.Syntax.{at, name, put}
 use Rattle.slot_compile.specs.declared.template.Node.{Node}
@@ -14,7 +13,7 @@ use Rattle.slot_compile.specs.declared.template.Node.TheVariants as piece
 use Rattle.slot_compile.specs.Template.{syntax_of, statics_of, places_of, later_statics, weave}
 use Rattle.slot_compile.specs.Rendering as own
 use Rattle.doc_model.specs.Environment.{Env, lookup}
-use Rattle.doc_model.specs.Evaluation.{Res, then_do, both, on_res, or_raise, printed, eval_expr}
+use Rattle.doc_model.specs.Evaluation.{Res, then_do, both, on_res, or_raise, printed}
 use Rattle.doc_model.specs.Scopes.{Site, Deeper}
 use Rattle.doc_model.specs.FullRendering.{full_nodes, full_place, full_render}
 use Rattle.doc_model.specs.Process.{Page, scope_of_view, page_text}

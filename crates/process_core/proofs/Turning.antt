@@ -1,6 +1,5 @@
 -- What a turn of a page of texts leaves of it, and of the process beside it.
-use Rattle.std.proofs.Common.{◌≡◌, ℕ, List, [], ◌∷◌, ◌++◌, ◌+◌, length, map, Option, Some, None, Result, Ok, Err, IsErr, Bool, true, false, refl, sym, ap, ◌∙◌, subst, nat_lt, if◌then◌else◌}
-use Rattle.std.proofs.lemmas.List.{append-nil}
+use Rattle.std.proofs.Common.{◌≡◌, ℕ, List, [], ◌∷◌, ◌++◌, length, Option, Some, None, Ok, Err, Bool, true, false, refl, sym, ap, ◌∙◌, subst, nat_lt, if◌then◌else◌}
 use Rattle.serde_json.specs.Data.{Data}
 use Rattle.serde_json.specs.Written.{compact_text}
 use Rattle.value_core.specs.Value.{Value, Assigns}
@@ -11,15 +10,14 @@ use Rattle.slot_compile.specs.Template.{places_of}
 use Rattle.diff_render.specs.Met.{items_of}
 use Rattle.diff_render.specs.Renders.{present}
 use Rattle.diff_tree.specs.Container.{Position, Limit}
-use Rattle.doc_model.specs.Environment.{Stream}
 use Rattle.doc_model.specs.Evaluation.{Res, then_do, on_res}
-use Rattle.doc_model.specs.Effects.{Rest, Applied, Waiting, sent, inbox_limit, is_kept_name, storable, sendable, position_of, limit_of, assigned, in_stream, batch_insert, insert_of, acting, to_publish, send_value, apply_effect, apply_effects}
+use Rattle.doc_model.specs.Effects.{Rest, Applied, sent, inbox_limit, is_kept_name, storable, sendable, position_of, limit_of, assigned, in_stream, batch_insert, insert_of, acting, to_publish, send_value, apply_effect, apply_effects}
 use Rattle.doc_model.specs.Trace.{Items}
 use Rattle.doc_model.specs.Process.{Page, Outcome, view_turn, rendered_page, turning_view}
 use Rattle.live_page.specs.declared.app.App.{App}
 use Rattle.live_page.specs.declared.page.LivePage.{LivePage}
 use Rattle.live_page.specs.World.{world_of}
-use Rattle.live_page.specs.Page.{page_of, StandsFor}
+use Rattle.live_page.specs.Page.{StandsFor}
 use Rattle.live_page.proofs.Rendered.{outcome_of}
 use Rattle.live_page.proofs.Turned.{turned}
 

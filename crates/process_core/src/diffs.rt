@@ -127,12 +127,7 @@ pub(crate) fn pushes(
     }
 }
 
-fn pushed(
-    alloc: Global,
-    page: &LivePage,
-    part: Part,
-    rest: Rest,
-) -> Result<Outcome, OutOfMemory>
+fn pushed(alloc: Global, page: &LivePage, part: Part, rest: Rest) -> Result<Outcome, OutOfMemory>
     ensures { IfOk result (SumsUp (push_under page.now.join_ref page.now.topic) part rest) }
 {
     let Rest {

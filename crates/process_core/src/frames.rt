@@ -92,11 +92,7 @@ pub(crate) fn own_frame(
 }
 
 /// A frame of the page that answers no message.
-pub(crate) fn push(
-    alloc: Global,
-    page: &LivePage,
-    body: FrameBody,
-) -> Result<Frames, OutOfMemory>
+pub(crate) fn push(alloc: Global, page: &LivePage, body: FrameBody) -> Result<Frames, OutOfMemory>
     ensures { IfOk result (λ fs. (b : model.FrameBody) → BodyStandsFor body b → fs ≡ spelled (frame_of page.now.join_ref None page.now.topic b ∷ [])) }
 {
     one_frame(alloc, &page.join_ref, &None, &page.topic, body)

@@ -60,7 +60,8 @@ fn woven(
     Ok(text)
 }
 
-// What a place of a page that is up shows. It was rendered, so that each of its assigns has a text.
+// What the place of an assign shows. A page that is up was rendered, so that each of its assigns is there and has a
+// text; another is answered as want of memory is.
 fn place_text(alloc: Global, assigns: &Assigns, name: &str) -> Result<Text, OutOfMemory>
     ensures { IfOk result (λ t. place_text assigns.now name.now ≡ Ok t) }
 {
@@ -70,6 +71,7 @@ fn place_text(alloc: Global, assigns: &Assigns, name: &str) -> Result<Text, OutO
     }
 }
 
+// The text of a value, escaped.
 fn value_text(alloc: Global, value: &Value) -> Result<Text, OutOfMemory>
     ensures { IfOk result (λ t. shown (Some value.now) ≡ Ok t) }
 {

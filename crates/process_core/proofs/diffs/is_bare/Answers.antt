@@ -1,5 +1,5 @@
-use Rattle.std.proofs.Common.{◌≡◌, Some, None, sym, ◌∙◌, ap, refl, rules}
-use Rattle.diff_tree.specs.Parts.{statics_of, places_of}
+use Rattle.std.proofs.Common.{◌≡◌, Some, None, sym, rules}
+use Rattle.diff_tree.specs.Parts.{statics_of}
 use Rattle.process_core.proofs.Plain.{with_statics_is, bare_is}
 use Rattle.process_core.proofs.diffs.is_bare.Goals as goal
 

@@ -1,4 +1,4 @@
-use Rattle.std.proofs.Common.{◌≡◌, [], ◌∷◌, map, None, true, false, if◌then◌else◌, sym, ◌∙◌, ap, refl}
+use Rattle.std.proofs.Common.{map, if◌then◌else◌, sym, ◌∙◌, ap}
 use Rattle.diff_tree.specs.Frame as model
 use Rattle.wire_v2.specs.FrameData.{pushed_of}
 use Rattle.process_core.proofs.Plain.{nothing_is, page_is}

@@ -1,4 +1,4 @@
-use Rattle.std.proofs.Common.{◌≡◌, ◌≤◌, ◌+◌, length, drop}
+use Rattle.std.proofs.Common.{◌≤◌, length, drop}
 use Rattle.slot_compile.specs.Template.{weave}
 use Rattle.slot_compile.specs.Rendering.{on_ok, place_texts}
 use Rattle.process_core.proofs.Texts.{Weaves}

@@ -1,8 +1,7 @@
 use Rattle.std.proofs.Common.{[], None, ap, if◌then◌else◌}
 use Rattle.value_core.specs.View.{view}
 use Rattle.wire_v2.specs.View.{head_view}
-use Rattle.doc_model.specs.Effects.{Waiting}
-use Rattle.doc_model.specs.Process.{Page, ProcessState, unchanged, is_of, step_event}
+use Rattle.doc_model.specs.Process.{unchanged, is_of, step_event}
 use Rattle.live_page.specs.World.{world_of}
 use Rattle.process_core.specs.declared.process.Process.{Process}
 use Rattle.process_core.proofs.Lifting.{lift_up}

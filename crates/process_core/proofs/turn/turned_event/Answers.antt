@@ -22,5 +22,5 @@ returns g c =
     } in
     let asks = λ (p : Page). (world_of m app).views.handle_event (of_view p.view) c.args.name.now (view c.args.value.now) p.assigns in
     on_given c.replies.result (λ o sums s w p generation up stands fits.
-      turn_answers m app c.args.page.now c.event-turn.new.self c.args.generation c.args.free s w p (reply_diff (head_view c.args.head.now)) (reply_diff (head_view c.args.head.now)) (asks p)
-      c.new-rest.result c.event-turn.new.rest c.event-turn.result c.in_ok-last.last o generation stands (λ q k j t. refl) fits begins (c.in_ok-last.ensures (faulted None) refl) (λ counts. c.event-turn.ensures w p stands counts) sums) c.replies.ensures
+    turn_answers m app c.args.page.now c.event-turn.new.self c.args.generation c.args.free s w p (reply_diff (head_view c.args.head.now)) (reply_diff (head_view c.args.head.now)) (asks p)
+    c.new-rest.result c.event-turn.new.rest c.event-turn.result c.in_ok-last.last o generation stands (λ q k j t. refl) fits begins (c.in_ok-last.ensures (faulted None) refl) (λ counts. c.event-turn.ensures w p stands counts) sums) c.replies.ensures

@@ -21,5 +21,5 @@ returns g c =
     } in
     let asks = λ (p : Page). (world_of m app).views.handle_params p.view (view c.args.params.now) p.assigns in
     on_given c.replies.result (λ o sums s w p generation up stands fits.
-      turn_answers m app c.args.page.now c.patch-turn.new.self c.args.generation c.args.free s w p (reply_diff (head_view c.args.head.now)) (reply_diff (head_view c.args.head.now)) (asks p)
-      c.new-rest.result c.patch-turn.new.rest c.patch-turn.result c.in_ok-last.last o generation stands (λ q k j t. refl) fits begins (c.in_ok-last.ensures (faulted None) refl) (λ counts. c.patch-turn.ensures w p stands counts) sums) c.replies.ensures
+    turn_answers m app c.args.page.now c.patch-turn.new.self c.args.generation c.args.free s w p (reply_diff (head_view c.args.head.now)) (reply_diff (head_view c.args.head.now)) (asks p)
+    c.new-rest.result c.patch-turn.new.rest c.patch-turn.result c.in_ok-last.last o generation stands (λ q k j t. refl) fits begins (c.in_ok-last.ensures (faulted None) refl) (λ counts. c.patch-turn.ensures w p stands counts) sums) c.replies.ensures

@@ -21,5 +21,5 @@ returns g c =
     } in
     let asks = λ (p : Page). (world_of m app).views.handle_info p.view (view c.args.value.now) p.assigns in
     on_given c.pushes.result (λ o sums s w p generation up stands fits.
-      turn_answers m app c.args.page.now c.info-turn.new.self c.args.generation c.args.free s w p (push_under c.info-turn.new.self.join_ref c.info-turn.new.self.topic) (push_frames p) (asks p)
-      c.new-rest.result c.info-turn.new.rest c.info-turn.result c.in_ok-last.last o generation stands (push_agrees m app c.info-turn.new.self p) fits begins (c.in_ok-last.ensures (faulted None) refl) (λ counts. c.info-turn.ensures w p stands counts) sums) c.pushes.ensures
+    turn_answers m app c.args.page.now c.info-turn.new.self c.args.generation c.args.free s w p (push_under c.info-turn.new.self.join_ref c.info-turn.new.self.topic) (push_frames p) (asks p)
+    c.new-rest.result c.info-turn.new.rest c.info-turn.result c.in_ok-last.last o generation stands (push_agrees m app c.info-turn.new.self p) fits begins (c.in_ok-last.ensures (faulted None) refl) (λ counts. c.info-turn.ensures w p stands counts) sums) c.pushes.ensures
