@@ -1,5 +1,5 @@
 -- What a join leaves.
-use Rattle.std.proofs.Common.{◌≡◌, ℕ, suc, ◌+◌, List, [], ◌∷◌, ◌++◌, length, map, Option, Some, None, Result, Ok, Err, IsErr, Bool, true, false, refl, sym, ap, ◌∙◌, subst, codes}
+use Rattle.std.proofs.Common.{◌≡◌, ℕ, suc, ◌+◌, List, [], ◌∷◌, ◌++◌, length, map, Option, Some, None, Result, Ok, Err, IsErr, Bool, true, false, refl, sym, ap, ◌∙◌, subst, codes, arith}
 use Rattle.std.specs.Result.{is_err}
 use Rattle.std.proofs.lemmas.List.{append-nil}
 use Rattle.value_core.specs.View.{view}
@@ -55,6 +55,14 @@ rest_begins w g r generation_is sent_is actions_is pushed_is =
     ∙ ap (λ as'. rest_by w g [] as' r.pushed) actions_is
     ∙ ap (λ es. rest_by w g [] [] es) pushed_is
     ∙ ap (λ inbox. rest_with g inbox) (append-nil w)
+
+-- the generation of a join
+pub next_generation : (a b : ℕ) → a ≡ b → suc a ≡ b + 1
+next_generation a b h = omega (arith, h)
+
+-- a page with its last words
+abbrev pub up_with : ℕ → LivePage → List (List ℕ) → Process
+up_with g page words = record { generation = g; up = Some (record { page = page; last_words = words }) }
 
 -- so many more messages fit as a message begins
 pub counts_begin : (w : List Waiting) (g free : ℕ) (r : Beside) → rest_view w r ≡ rest_of g w → r.free ≡ free → Fits w free → CountsFree w r

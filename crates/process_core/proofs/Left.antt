@@ -1,5 +1,6 @@
 -- What is answered where nothing changes, where a process goes down, and where a message is of the page that is up.
-use Rattle.std.proofs.Common.{◌≡◌, ℕ, List, [], ◌∷◌, Option, Some, None, Bool, true, false, if◌then◌else◌, refl, sym, ap, ◌∙◌, subst}
+use Rattle.std.proofs.Common.{◌≡◌, ℕ, List, [], ◌∷◌, Option, Some, None, Bool, true, false, if◌then◌else◌, refl, sym, ap, ◌∙◌, subst, Bor}
+use Rattle.std.specs.Option.{is_some, option_copied}
 use Rattle.std.proofs.lemmas.List.{append-nil}
 use Rattle.slot_compile.specs.declared.template.Node.{Node}
 use Rattle.diff_tree.specs.Frame.{Frame, empty, closed}
@@ -82,6 +83,18 @@ fresh_at ns h page s w f (Some u) None up some = absurd up
 pub fresh : (ns : List Node) (kept : Process) (s : ProcessState) (w : List Waiting) (h : MessageHead) (page : LivePage) (f : Page → Stepped)
     → Keeps ns kept s → fresh_page kept.up h ≡ Some page → Fresh ns page (if_fresh s w (head_view h) f) f
 fresh ns kept s w h page f keeps some = fresh_at ns h page s w f kept.up s.page keeps.up some
+
+true_is_not_false : true ≡ false → ⊥
+true_is_not_false h = cc
+
+-- the page behind a reference, where there is one
+pub some_page : (o : Option (Bor LivePage)) (x : Option LivePage) → is_some o ≡ true → option_copied o ≡ x → (page : LivePage) × (x ≡ Some page)
+some_page None x e h = absurd (true_is_not_false (sym e))
+some_page (Some b) x e h = (b.now, sym h)
+
+pub no_page : (o : Option (Bor LivePage)) (x : Option LivePage) → is_some o ≡ false → option_copied o ≡ x → x ≡ None
+no_page None x e h = sym h
+no_page (Some b) x e h = absurd (true_is_not_false e)
 
 -- nothing is answered
 pub silence : (ns : List Node) (kept kept' : Process) (s : ProcessState) (w : List Waiting) (h : MessageHead) (f : Page → Stepped) (o : Outcome)

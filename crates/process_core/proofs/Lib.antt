@@ -8,3 +8,4 @@ pub mod Settling
 pub mod Lifting
 pub mod Texts
 pub mod Arms
+pub mod Acted

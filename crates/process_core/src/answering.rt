@@ -131,11 +131,28 @@ fn happen<V: Views>(
     ensures err { OnErr result (Spares process.old process.new) }
     ensures generation { process.new.generation ≡ process.old.generation }
 {
-    if component.is_some() {
-        return absent_component(alloc, process, &head);
+    match component {
+        Some(_) => absent_component(alloc, process, &head),
+        None => happen_to_view(alloc, app, process, free, &head, &name, value),
     }
+}
+
+// An event of the view.
+fn happen_to_view<V: Views>(
+    alloc: Global,
+    app: &App<V>,
+    process: &mut Process,
+    free: u32,
+    head: &MessageHead,
+    name: &Text,
+    value: EventValue,
+) -> Result<Outcome, OutOfMemory>
+    ensures ok { IfOk result (λ o. AnswersStep app.now.compiled process.old free (λ s w. step_message (world_of V.meaning app.now) s w (model.event (head_view head.now) name.now (event_value_view value) None)) process.new o) }
+    ensures err { OnErr result (Spares process.old process.new) }
+    ensures generation { process.new.generation ≡ process.old.generation }
+{
     let value = event_value(alloc, value)?;
-    event(alloc, app, process, free, &head, &name, &value)
+    event(alloc, app, process, free, head, name, &value)
 }
 
 // The value of an event; the text of a form is read.

@@ -1,20 +1,19 @@
-use Rattle.std.proofs.Common.{rules, ◌≡◌, ◌<◌, ◌≤◌, ◌+◌, [], ◌∷◌, ℕ, List, None, IfOk, OnErr, codes, ◌-◌, ◌*◌, length, ◌/◌, ◌%◌, Bool, true, false, nat_eq, nat_lt, ◌++◌, slice_index_or, slice_set, bit_and, bit_or, Fits, w8, w32, w64, Bor, MutBor}
-use Rattle.value_core.specs.View.{view}
-use Rattle.diff_tree.specs.Frame as frame
-use Rattle.slot_compile.specs.declared.template.Node.{Node}
-use Rattle.wire_v2.specs.Message as model
-use Rattle.wire_v2.specs.Message.{message_of}
-use Rattle.wire_v2.specs.View.{event_value_view, head_view, message_view}
-use Rattle.doc_model.specs.Process.{frame_of, step_heard, step_message, unchanged}
-use Rattle.live_page.specs.World.{world_of}
-use Rattle.process_core.specs.Answering.{value_in}
-use Rattle.process_core.specs.Answers.{AnswersStep, Spares}
+use Rattle.std.proofs.Common.{Some, None}
+use Rattle.wire_v2.specs.View.{event_value_view, head_view}
+use Rattle.process_core.proofs.Acted.{for_absent, for_component}
 use Rattle.process_core.proofs.answering.happen.Goals as goal
 
--- src/answering.rt:135:9
-pub returns-then-is_some-clause-ok : goal.returns-then-is_some-clause-ok
-returns-then-is_some-clause-ok g c = ?
+pub returns-in-Some-clause-ok : goal.returns-in-Some-clause-ok
+returns-in-Some-clause-ok g c =
+    let meaning = g.V.Views.meaning in
+    let app = c.args.app.now in
+    let before = c.args.process.now in
+    let head = head_view c.args.head in
+    let value = event_value_view c.args.value in
+    for_component meaning app before before c.args.free head c.args.name value c.args.component (Some c.in-Some.field-0) c.absent_component.result c.in-Some.is
+    (for_absent meaning app before before c.args.free head c.args.name value c.in-Some.field-0 c.absent_component.result c.absent_component.ensures)
 
--- src/answering.rt:120:1
 pub returns-clause-ok : goal.returns-clause-ok
-returns-clause-ok g c = ?
+returns-clause-ok g c =
+    for_component g.V.Views.meaning c.args.app.now c.args.process.now c.happen_to_view.new.process c.args.free (head_view c.args.head) c.args.name (event_value_view c.args.value) c.args.component None c.happen_to_view.result c.in-None.is
+    c.happen_to_view.ensures.ok

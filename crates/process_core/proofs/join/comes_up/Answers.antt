@@ -1,14 +1,14 @@
-use Rattle.std.proofs.Common.{rules, ◌≡◌, ◌<◌, ◌≤◌, ◌+◌, List, [], ◌∷◌, Some, None, true, false, IfOk, OnErr, codes, ℕ, ◌-◌, ◌*◌, length, ◌/◌, ◌%◌, Bool, nat_eq, nat_lt, ◌++◌, slice_index_or, slice_set, bit_and, bit_or, w8, w32, w64, Bor, MutBor}
-use Rattle.diff_tree.specs.Frame.{refusal}
-use Rattle.wire_v2.specs.View.{head_view}
-use Rattle.doc_model.specs.Effects.{Waiting}
-use Rattle.doc_model.specs.Journal.{spelled}
-use Rattle.doc_model.specs.Process.{joined_page, no_route, reply_to, rest_of, step_join}
-use Rattle.live_page.specs.World.{destination_view, world_of}
-use Rattle.process_core.specs.Answers.{AnswersStep, Fits, Spares}
-use Rattle.process_core.specs.Joining.{Begins, Came, Crashed, frames_only, last_words_of}
+use Rattle.std.proofs.Common.{◌≡◌, map, refl, ap, ◌∙◌}
+use Rattle.diff_tree.specs.Frame.{rendered}
+use Rattle.wire_v2.specs.FrameData.{pushed_of}
+use Rattle.process_core.proofs.Came.{up_with}
 use Rattle.process_core.proofs.join.comes_up.Goals as goal
 
--- src/join.rt:93:1
 pub returns-clause-ok : goal.returns-clause-ok
-returns-clause-ok c = ?
+returns-clause-ok c = record {
+  kept_is = ap (up_with c.args.generation c.args.joined.page) c.in_ok-last_words.ensures;
+  frames = λ p h. c.in_ok-frames.ensures (rendered p (map pushed_of c.args.joined.rest.pushed)) (p, c.new.ensures.data ∙ h, refl);
+  sent = refl;
+  actions = refl;
+  crashed = refl;
+}

@@ -1,16 +1,19 @@
-use Rattle.std.proofs.Common.{rules, ◌≡◌, List, [], ◌∷◌, ℕ, Some, None, false, if◌then◌else◌, IfOk, OnErr, ◌+◌, ◌-◌, ◌*◌, ◌<◌, ◌≤◌, length, ◌/◌, ◌%◌, Bool, true, nat_eq, nat_lt, ◌++◌, slice_index_or, slice_set, bit_and, bit_or, Fits, w8, w32, w64, Bor, MutBor}
-use Rattle.std.specs.Option.{option_copied}
-use Rattle.value_core.specs.Value.{Value}
-use Rattle.slot_compile.specs.declared.template.Node.{Node}
-use Rattle.diff_tree.specs.Frame as model
+use Rattle.std.proofs.Common.{◌≡◌, [], ◌∷◌, false, refl, sym, ap, ◌∙◌}
+use Rattle.diff_tree.specs.Frame.{empty}
 use Rattle.wire_v2.specs.View.{head_view}
-use Rattle.doc_model.specs.Journal.{spelled}
-use Rattle.doc_model.specs.Process.{World, frame_of, goes_down, if_fresh, reply_to, step_event, unchanged}
-use Rattle.process_core.specs.Answers.{AnswersStep, Spares}
+use Rattle.doc_model.specs.Process.{reply_to, unchanged}
 use Rattle.process_core.specs.Joining.{frames_only}
-use Rattle.process_core.specs.Leaving.{fresh_page, is_of_kept}
+use Rattle.process_core.specs.Leaving.{fresh_page}
+use Rattle.process_core.proofs.Left.{no_page, replied, silence, some_page}
 use Rattle.process_core.proofs.leave.will_destroy.Goals as goal
 
--- src/leave.rt:52:1
+pub returns-then-is_none : goal.returns-then-is_none
+returns-then-is_none c ns free s w keeps fits =
+    silence ns c.args.process.now c.args.process.now s w c.args.head (λ p. unchanged s w (reply_to (head_view c.args.head) empty ∷ [])) c.silent.result keeps
+    (no_page c.fresh_page.result (fresh_page c.args.process.now.up c.args.head) c.if-is_none.ensures c.fresh_page.ensures) refl c.silent.ensures
+
 pub returns : goal.returns
-returns c = ?
+returns c ns free s w keeps fits =
+    let found = some_page c.fresh_page.result (fresh_page c.args.process.now.up c.args.head) c.if-is_none.ensures c.fresh_page.ensures in
+    replied ns c.args.process.now c.args.process.now s w c.args.head found.0 (reply_to (head_view c.args.head) empty ∷ []) c.only.result keeps found.1 refl
+    (c.only.ensures ∙ ap (λ fs. frames_only fs false) (c.in_ok-frames.ensures empty refl))
