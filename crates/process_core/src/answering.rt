@@ -13,8 +13,8 @@ ghost use Rattle.process_core.specs.Answers.{AnswersStep, Spares};
 
 use crate::frames::heartbeat;
 use crate::join::join;
-use crate::leave::{absent_component, destroyed, leave, silent, will_destroy};
-use crate::outcome::{Outcome, only};
+use crate::leave::{absent_component, destroyed, leave, will_destroy};
+use crate::outcome::{Outcome, only, silent};
 use crate::process::Process;
 use crate::turn::{event, patch};
 use live_page::App;

@@ -12,8 +12,11 @@ use std::alloc::Global;
 use text_core::{Bytes, Frames, OutOfMemory, Seq, Text};
 use wire_v2::{Frame, FrameBody, MessageHead, frames_agree, write_frame};
 
-// A text or null, copied.
-fn reference_copy(alloc: Global, reference: &Option<Text>) -> Result<Option<Text>, OutOfMemory>
+/// A text or null, copied.
+pub(crate) fn reference_copy(
+    alloc: Global,
+    reference: &Option<Text>,
+) -> Result<Option<Text>, OutOfMemory>
     ensures { IfOk result (λ copy. copy ≡ reference.now) }
 {
     match reference {

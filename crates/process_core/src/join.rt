@@ -9,7 +9,7 @@ ghost use Rattle.live_page.specs.World.{destination_view, world_of};
 ghost use Rattle.process_core.specs.Answers.{AnswersStep, Fits, Spares};
 ghost use Rattle.process_core.specs.Joining.{Begins, Came, Crashed, frames_only, last_words_of};
 
-use crate::frames::{own_frame, reply};
+use crate::frames::{own_frame, reference_copy, reply};
 use crate::outcome::{Outcome, only};
 use crate::process::{Process, Up};
 use diff_tree::{Diff, Part};
@@ -160,14 +160,4 @@ fn refused(
     let reason = Text::copy_of(alloc, reason)?;
     let frames = reply(alloc, head, FrameBody::Refusal(reason))?;
     Ok(only(alloc, frames, crashed))
-}
-
-// A text or null, copied.
-fn reference_copy(alloc: Global, reference: &Option<Text>) -> Result<Option<Text>, OutOfMemory>
-    ensures { IfOk result (λ copy. copy ≡ reference.now) }
-{
-    match reference {
-        Some(text) => Ok(Some(text.copy(alloc)?)),
-        None => Ok(None),
-    }
 }

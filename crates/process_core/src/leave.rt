@@ -8,16 +8,15 @@ ghost use Rattle.wire_v2.specs.View.{head_view};
 ghost use Rattle.doc_model.specs.Journal.{spelled};
 ghost use Rattle.doc_model.specs.Process.{World, frame_of, goes_down, if_fresh, reply_to, step_event, unchanged};
 ghost use Rattle.process_core.specs.Answers.{AnswersStep, Spares};
-ghost use Rattle.process_core.specs.Joining.{frames_only};
 ghost use Rattle.process_core.specs.Leaving.{fresh_page, is_of_kept};
 
 use crate::frames::{followed_by, own_frame, reply};
 use crate::fresh::is_of;
-use crate::outcome::{Outcome, only};
+use crate::outcome::{Outcome, only, silent};
 use crate::process::Process;
 use live_page::LivePage;
 use std::alloc::Global;
-use text_core::{Frames, OutOfMemory, Seq};
+use text_core::{Frames, OutOfMemory};
 use wire_v2::{FrameBody, MessageHead};
 
 /// What leaving makes of a process: it goes down, where it is up and the message is of its join.
@@ -108,11 +107,4 @@ fn if_of<'p>(page: &'p LivePage, head: &MessageHead) -> Option<&'p LivePage>
     ensures { option_copied result ≡ if is_of_kept page.now head.now then Some page.now else None }
 {
     if is_of(page, head) { Some(page) } else { None }
-}
-
-/// Nothing.
-pub(crate) fn silent(alloc: Global) -> Outcome
-    ensures { result ≡ frames_only [] false }
-{
-    only(alloc, Seq::new(alloc), false)
 }

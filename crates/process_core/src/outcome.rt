@@ -27,3 +27,10 @@ pub(crate) fn only(alloc: Global, frames: Frames, crashed: bool) -> Outcome
         crashed,
     }
 }
+
+/// Nothing at all.
+pub(crate) fn silent(alloc: Global) -> Outcome
+    ensures { result ≡ record { frames = []; sent = []; actions = []; crashed = false } }
+{
+    only(alloc, Seq::new(alloc), false)
+}

@@ -12,12 +12,12 @@ ghost use Rattle.process_core.specs.Turned.{AnswersPage};
 use crate::diffs::{pushes, replies};
 use crate::frames::{own_frame, reply};
 use crate::fresh::is_of;
-use crate::outcome::{Outcome, only};
+use crate::outcome::{Outcome, only, silent};
 use crate::process::Process;
 use effects_apply::Rest;
 use live_page::{App, Destination, LivePage};
 use std::alloc::Global;
-use text_core::{OutOfMemory, Seq, Text};
+use text_core::{OutOfMemory, Text};
 use value_core::Value;
 use view_api::Views;
 use wire_v2::{FrameBody, MessageHead};
@@ -105,13 +105,6 @@ fn put_down(process: &mut Process, crashed: bool)
     if crashed {
         process.up = None;
     }
-}
-
-// No frame, and nothing else.
-fn silent(alloc: Global) -> Outcome
-    ensures { result ≡ record { frames = []; sent = []; actions = []; crashed = false } }
-{
-    only(alloc, Seq::new(alloc), false)
 }
 
 // An event for the page that is up. After an error the page is given up.
