@@ -4,7 +4,7 @@ use Rattle.std.proofs.lemmas.Result.{IfOk-weaker}
 use Rattle.text_core.specs.declared.memory.OutOfMemory.{OutOfMemory}
 use Rattle.view_api.specs.Meaning.{HandlerMeaning}
 use Rattle.slot_compile.specs.declared.template.Node.{Node}
-use Rattle.wire_v2.specs.View.{event_value_view, message_view}
+use Rattle.wire_v2.specs.View.{message_view}
 use Rattle.wire_v2.specs.declared.message.Message.{Message}
 use Rattle.wire_v2.specs.Message as model
 use Rattle.doc_model.specs.Effects.{Waiting}

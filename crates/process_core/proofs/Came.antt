@@ -1,6 +1,5 @@
 -- What a join leaves.
-use Rattle.std.proofs.Common.{◌≡◌, ℕ, suc, ◌+◌, List, [], ◌∷◌, ◌++◌, length, map, Option, Some, None, Result, Ok, Err, IsErr, Bool, true, false, refl, sym, ap, ◌∙◌, subst, codes, arith}
-use Rattle.std.specs.Result.{is_err}
+use Rattle.std.proofs.Common.{◌≡◌, ℕ, suc, ◌+◌, List, [], ◌∷◌, ◌++◌, length, map, Option, Some, None, Ok, Err, IsErr, true, refl, sym, ap, ◌∙◌, subst, codes, arith}
 use Rattle.std.proofs.lemmas.List.{append-nil}
 use Rattle.value_core.specs.View.{view}
 use Rattle.value_core.specs.declared.value.Value.{Value as Stored}
@@ -11,7 +10,6 @@ use Rattle.slot_compile.specs.Template.{syntax_of}
 use Rattle.diff_tree.specs.Client.{PageTree}
 use Rattle.diff_tree.specs.Frame.{refusal, rendered}
 use Rattle.diff_tree.specs.Spelling.{Pushed}
-use Rattle.diff_tree.specs.declared.part.Part.{Part}
 use Rattle.wire_v2.specs.Message.{MessageHead}
 use Rattle.wire_v2.specs.FrameData.{pushed_of}
 use Rattle.wire_v2.specs.declared.push.Push.{Push}
@@ -26,7 +24,7 @@ use Rattle.live_page.specs.declared.fault.PageFault.TheVariants as fault
 use Rattle.live_page.specs.World.{world_of}
 use Rattle.live_page.specs.Page.{Joins, Leaves}
 use Rattle.doc_model.specs.Evaluation.{Res}
-use Rattle.doc_model.specs.Effects.{Waiting, sent, Rest, inbox_limit}
+use Rattle.doc_model.specs.Effects.{Waiting, sent, Rest}
 use Rattle.doc_model.specs.Components.{whole_tree}
 use Rattle.doc_model.specs.Journal.{fault_frames, spelled}
 use Rattle.doc_model.specs.Process.{Outcome as Given, ProcessState, Route, Stepped, World, after_join, goes_down, joined_page, reply_to, rest_of, step_join}

@@ -9,7 +9,6 @@ use Rattle.wire_v2.specs.View.{head_view}
 use Rattle.wire_v2.specs.declared.head.MessageHead.{MessageHead}
 use Rattle.live_page.specs.Page.{StandsFor}
 use Rattle.live_page.specs.declared.page.LivePage.{LivePage}
-use Rattle.doc_model.specs.Environment.{Component}
 use Rattle.doc_model.specs.Effects.{Waiting}
 use Rattle.doc_model.specs.Process.{World, Page, ProcessState, Stepped, component_at, frame_of, goes_down, if_fresh, is_of, reply_to, step_component, step_event, unchanged}
 use Rattle.doc_model.specs.Journal.{spelled}

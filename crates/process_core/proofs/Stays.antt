@@ -1,5 +1,5 @@
 -- The generation during the message of a join.
-use Rattle.std.proofs.Common.{◌≡◌, ℕ, List, [], ◌∷◌, ◌++◌, length, Option, Some, None, Ok, Err, Bool, true, false, nat_lt, if◌then◌else◌, refl, sym, ap, ◌∙◌, subst}
+use Rattle.std.proofs.Common.{◌≡◌, ℕ, List, [], ◌∷◌, ◌++◌, length, Option, Some, None, Ok, Err, Bool, true, false, nat_lt, if◌then◌else◌, refl, sym, subst}
 use Rattle.serde_json.specs.Data.{Data}
 use Rattle.serde_json.specs.Written.{compact_text}
 use Rattle.value_core.specs.Value.{Value, Assigns, no_assigns}
@@ -9,7 +9,6 @@ use Rattle.view_api.specs.Meaning.{HandlerMeaning}
 use Rattle.slot_compile.specs.Template.{places_of}
 use Rattle.diff_tree.specs.Container.{Position, Limit}
 use Rattle.diff_render.specs.Met.{items_of}
-use Rattle.doc_model.specs.Environment.{Stream}
 use Rattle.doc_model.specs.Evaluation.{Res, then_do, on_res}
 use Rattle.doc_model.specs.Trace.{Items}
 use Rattle.doc_model.specs.Effects.{to_publish, sent, Rest, inbox_limit, storable, sendable, position_of, limit_of, batch_insert, in_stream, Applied, acting, send_value, is_kept_name, assigned, insert_of, apply_effect, apply_effects, applied_or_raise, empty_stream}

@@ -1,5 +1,5 @@
 -- The whole tree of a page of texts and assigns, as a JSON value.
-use Rattle.std.proofs.Common.{◌≡◌, ℕ, List, [], ◌∷◌, Ok, Err, refl, sym, ap, ◌∙◌, subst}
+use Rattle.std.proofs.Common.{◌≡◌, ℕ, List, [], ◌∷◌, Ok, Err, refl, sym, ap, subst}
 use Rattle.serde_json.specs.Data.{Data}
 use Rattle.text_core.specs.Escape.{escape_text}
 use Rattle.value_core.specs.Value.{Assigns}
@@ -14,7 +14,7 @@ use Rattle.diff_render.specs.Renders.{whole_json}
 use Rattle.diff_render.proofs.Items.{met_items}
 use Rattle.doc_model.specs.Environment.{lookup}
 use Rattle.doc_model.specs.Evaluation.{Res, then_do, both, on_res, or_raise, printed}
-use Rattle.doc_model.specs.Trace.{Items, no_items, item, Item, met_text}
+use Rattle.doc_model.specs.Trace.{Items, item, met_text}
 use Rattle.doc_model.specs.Whole.{whole_places}
 use Rattle.doc_model.specs.Components.{Part, parts, part_numbers, option_tree, part_at, whole_tree}
 

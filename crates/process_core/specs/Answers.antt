@@ -1,5 +1,5 @@
 -- What a message made of a process.
-use Rattle.std.specs.Prelude.{◌≡◌, ℕ, ◌+◌, List, [], ◌++◌, length, map, Option, Some, None}
+use Rattle.std.specs.Prelude.{◌≡◌, ℕ, ◌+◌, List, [], ◌++◌, length, map, Some, None}
 use Rattle.value_core.specs.View.{view}
 use Rattle.slot_compile.specs.declared.template.Node.{Node}
 use Rattle.effects_apply.specs.Applied.{action_view}

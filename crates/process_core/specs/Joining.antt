@@ -1,5 +1,5 @@
 -- What the parts of a join give.
-use Rattle.std.specs.Prelude.{◌≡◌, ℕ, List, [], ◌∷◌, map, Option, Some, None, Result, Ok, Err, IsErr, Bool, true, false, codes}
+use Rattle.std.specs.Prelude.{◌≡◌, ℕ, List, [], ◌∷◌, map, Some, None, Result, Ok, Err, IsErr, Bool, true, false, codes}
 use Rattle.slot_compile.specs.declared.template.Node.{Node}
 use Rattle.diff_tree.specs.Client.{PageTree}
 use Rattle.diff_tree.specs.Frame.{rendered, faulted}

@@ -1,10 +1,10 @@
 //! How a join brings a process up.
-ghost use Rattle.std.specs.Prelude.{◌≡◌, ◌<◌, ◌≤◌, ◌+◌, List, [], ◌∷◌, Some, None, true, false, IfOk, OnErr, codes};
+ghost use Rattle.std.specs.Prelude.{◌≡◌, ◌<◌, ◌≤◌, ◌+◌, List, [], ◌∷◌, Some, IfOk, OnErr, codes};
 ghost use Rattle.diff_tree.specs.Frame.{refusal};
 ghost use Rattle.wire_v2.specs.View.{head_view};
 ghost use Rattle.doc_model.specs.Effects.{Waiting};
 ghost use Rattle.doc_model.specs.Journal.{spelled};
-ghost use Rattle.doc_model.specs.Process.{joined_page, no_route, reply_to, rest_of, step_join};
+ghost use Rattle.doc_model.specs.Process.{joined_page, reply_to, rest_of, step_join};
 ghost use Rattle.live_page.specs.World.{destination_view, world_of};
 ghost use Rattle.process_core.specs.Answers.{AnswersStep, Fits, Spares};
 ghost use Rattle.process_core.specs.Joining.{Begins, Came, Crashed, frames_only, last_words_of};

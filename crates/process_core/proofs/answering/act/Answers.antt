@@ -1,4 +1,4 @@
-use Rattle.std.proofs.Common.{◌≡◌, [], ◌∷◌, None, false, codes}
+use Rattle.std.proofs.Common.{[], ◌∷◌, None, false, codes}
 use Rattle.diff_tree.specs.Frame.{closed, empty, no_cids}
 use Rattle.wire_v2.specs.View.{head_view}
 use Rattle.wire_v2.specs.declared.message.Message.TheVariants as message

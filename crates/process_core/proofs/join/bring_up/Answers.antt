@@ -1,13 +1,11 @@
-use Rattle.std.proofs.Common.{◌≡◌, ◌+◌, [], ◌∷◌, Some, codes}
+use Rattle.std.proofs.Common.{◌+◌, Some}
 use Rattle.std.proofs.lemmas.Result.{IfOk-weaker}
 use Rattle.wire_v2.specs.View.{head_view}
-use Rattle.diff_tree.specs.Frame.{refusal}
-use Rattle.doc_model.specs.Process.{reply_to, step_join}
-use Rattle.doc_model.specs.Journal.{spelled}
+use Rattle.doc_model.specs.Process.{step_join}
 use Rattle.live_page.specs.World.{destination_view, world_of}
 use Rattle.process_core.specs.Answers.{AnswersStep}
-use Rattle.process_core.specs.Joining.{Came, Crashed}
-use Rattle.process_core.proofs.Came.{crash_is, next_generation, up_is}
+use Rattle.process_core.specs.Joining.{Came}
+use Rattle.process_core.proofs.Came.{next_generation, up_is}
 use Rattle.process_core.proofs.join.bring_up.Goals as goal
 
 pub returns-in-Ok-clause-ok : goal.returns-in-Ok-clause-ok

@@ -1,4 +1,4 @@
-use Rattle.std.proofs.Common.{◌≡◌, map, refl, ap, ◌∙◌}
+use Rattle.std.proofs.Common.{map, refl, ap, ◌∙◌}
 use Rattle.diff_tree.specs.Frame.{rendered}
 use Rattle.wire_v2.specs.FrameData.{pushed_of}
 use Rattle.process_core.proofs.Came.{up_with}

@@ -1,10 +1,9 @@
-use Rattle.std.proofs.Common.{◌≡◌, Err, subst, rules}
+use Rattle.std.proofs.Common.{Err, subst, rules}
 use Rattle.effects_apply.specs.Applied.{rest_view}
 use Rattle.diff_render.specs.Renders.{whole_json}
 use Rattle.doc_model.specs.Process.{rest_of}
 use Rattle.live_page.specs.World.{destination_view, world_of}
 use Rattle.live_page.specs.Page.{Leaves, Joins}
-use Rattle.process_core.specs.Joining.{Begins}
 use Rattle.process_core.proofs.Came.{begins_fault, counts_begin, joined_of, rest_begins}
 use Rattle.process_core.proofs.join.first_page.Goals as goal
 

@@ -1,4 +1,4 @@
-use Rattle.std.proofs.Common.{◌≡◌, sym, ap, ◌∙◌}
+use Rattle.std.proofs.Common.{sym, ap, ◌∙◌}
 use Rattle.diff_tree.specs.Frame.{refusal}
 use Rattle.process_core.specs.Joining.{frames_only}
 use Rattle.process_core.proofs.join.refused.Goals as goal

@@ -1,4 +1,4 @@
-use Rattle.std.proofs.Common.{◌≡◌, [], ◌∷◌, false, refl, sym, ap, ◌∙◌}
+use Rattle.std.proofs.Common.{[], ◌∷◌, false, refl, ap, ◌∙◌}
 use Rattle.diff_tree.specs.Frame.{empty}
 use Rattle.wire_v2.specs.View.{head_view}
 use Rattle.doc_model.specs.Process.{if_fresh, reply_to, step_event, unchanged}

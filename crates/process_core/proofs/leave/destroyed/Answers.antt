@@ -1,4 +1,4 @@
-use Rattle.std.proofs.Common.{◌≡◌, [], ◌∷◌, false, refl, sym, ap, ◌∙◌}
+use Rattle.std.proofs.Common.{[], ◌∷◌, false, refl, ap, ◌∙◌}
 use Rattle.diff_tree.specs.Frame.{no_cids}
 use Rattle.wire_v2.specs.View.{head_view}
 use Rattle.doc_model.specs.Process.{reply_to, unchanged}
