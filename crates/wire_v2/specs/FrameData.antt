@@ -1,9 +1,10 @@
 -- The JSON values of frames.
-use Rattle.std.specs.Prelude.{◌≡◌, ℕ, List, map, codes}
+use Rattle.std.specs.Prelude.{◌≡◌, ℕ, List, map, Bool, true, codes}
 use Rattle.serde_json.specs.Data.{Data, string, array, object, no_items, item, no_members, put}
 use Rattle.serde_json.specs.View.{view}
 use Rattle.diff_tree.specs.Frame.{reference_json, one_member, reply, fault_json}
 use Rattle.diff_tree.specs.Spelling.{Pushed, with_events, members_of}
+use Rattle.diff_tree.specs.Grammar.{is_diff}
 use Rattle.diff_tree.specs.Parts.{diff_data}
 use Rattle.diff_tree.specs.declared.part.Diff.{Diff}
 use Rattle.wire_v2.specs.declared.push.Push.{Push}
@@ -41,9 +42,16 @@ payload_data (body.Pushed d es) = page_data d es
 payload_data body.Closed = object no_members
 payload_data (body.Faulted reason) = fault_json reason
 
+-- what a body carries of a page is a diff
+abbrev pub carries_diff : FrameBody → Bool
+carries_diff (body.Rendered t es) = is_diff (diff_data t)
+carries_diff (body.Changed d es) = is_diff (diff_data d)
+carries_diff (body.Pushed d es) = is_diff (diff_data d)
+carries_diff _ = true
+
 -- a body has this event and this payload
 abbrev pub IsBody : List ℕ → Data → FrameBody → Type 0
-IsBody event payload b = (event_name b ≡ event) × (payload_data b ≡ payload)
+IsBody event payload b = (event_name b ≡ event) × (payload_data b ≡ payload) × (carries_diff b ≡ true)
 
 -- five items
 abbrev pub framed : Data → Data → Data → Data → Data → Data

@@ -3,7 +3,7 @@ ghost use Rattle.std.specs.Prelude.{◌≡◌, ◌&&◌, true, false, Some, is_s
 ghost use Rattle.serde_json.specs.Data.{Data, string, array};
 ghost use Rattle.serde_json.specs.View.{view, items_view};
 ghost use Rattle.diff_tree.specs.Frame.{one_member, reply};
-ghost use Rattle.wire_v2.specs.FrameData.{IsBody, reply_under, event_name, payload_data, framed, frame_data};
+ghost use Rattle.wire_v2.specs.FrameData.{IsBody, reply_under, event_name, payload_data, framed, frame_data, carries_diff};
 ghost use Rattle.wire_v2.specs.Message.{head_of};
 ghost use Rattle.wire_v2.specs.FrameGrammar.{only_member, two_members, is_null, is_empty_object, is_empty_list, is_page, is_reason, is_content, is_response, is_reply_of, is_reply, is_fault, is_body, is_frame, SpellsFrame};
 
@@ -201,6 +201,7 @@ fn frame_with(
     body: FrameBody,
 ) -> Result<Frame, MessageFault>
     ensures ok { IfOk result (λ f. (is_some (head_of (view join_ref.now) (view reference.now) (view topic.now)) ≡ true) × (frame_data f ≡ framed (view join_ref.now) (view reference.now) (view topic.now) (string (event_name body)) (payload_data body))) }
+    ensures carries { IfOk result (λ f. carries_diff f.body ≡ carries_diff body) }
     ensures malformed { IsErrOf result MessageFault.Malformed → is_some (head_of (view join_ref.now) (view reference.now) (view topic.now)) ≡ false }
 {
     match head_of(alloc, join_ref, reference, topic)? {
@@ -230,6 +231,7 @@ fn frame_from(
     payload: &Json,
 ) -> Result<Frame, MessageFault>
     ensures ok { IfOk result (λ f. (is_frame (framed (view join_ref.now) (view reference.now) (view topic.now) (view event.now) (view payload.now)) ≡ true) × (frame_data f ≡ framed (view join_ref.now) (view reference.now) (view topic.now) (view event.now) (view payload.now))) }
+    ensures carries { IfOk result (λ f. carries_diff f.body ≡ true) }
     ensures malformed { IsErrOf result MessageFault.Malformed → is_frame (framed (view join_ref.now) (view reference.now) (view topic.now) (view event.now) (view payload.now)) ≡ false }
 {
     let Some(event) = event.as_str() else {
@@ -242,6 +244,7 @@ fn frame_from(
 // A frame has five items.
 fn frame_of_items(alloc: Global, items: &[Json]) -> Result<Frame, MessageFault>
     ensures ok { IfOk result (λ f. (is_frame (array (items_view items.now)) ≡ true) × (frame_data f ≡ array (items_view items.now))) }
+    ensures carries { IfOk result (λ f. carries_diff f.body ≡ true) }
     ensures malformed { IsErrOf result MessageFault.Malformed → is_frame (array (items_view items.now)) ≡ false }
 {
     match items {
@@ -254,6 +257,7 @@ fn frame_of_items(alloc: Global, items: &[Json]) -> Result<Frame, MessageFault>
 
 fn frame_of_json(alloc: Global, json: &Json) -> Result<Frame, MessageFault>
     ensures ok { IfOk result (λ f. (is_frame (view json.now) ≡ true) × (frame_data f ≡ view json.now)) }
+    ensures carries { IfOk result (λ f. carries_diff f.body ≡ true) }
     ensures malformed { IsErrOf result MessageFault.Malformed → is_frame (view json.now) ≡ false }
 {
     match json.as_array() {
@@ -266,10 +270,11 @@ fn frame_of_json(alloc: Global, json: &Json) -> Result<Frame, MessageFault>
 /// (each a text or null), topic, event and payload, whose members are exactly those of one kind of
 /// frame (Phoenix Channels V2). White space and the order of members do not matter. A tree has
 /// statics in each of its nodes, a diff that answers no message has no reference, and the payload of
-/// a pushed event has no number with a fraction or an exponent. It answers Malformed exactly where
-/// the bytes spell no frame.
+/// a pushed event has no number with a fraction or an exponent. What it carries of a page is a diff
+/// without `e`. It answers Malformed exactly where the bytes spell no frame.
 pub fn read_frame(alloc: Global, text: &[u8]) -> Result<Frame, MessageFault>
     ensures ok { IfOk result (λ f. SpellsFrame text.now (frame_data f)) }
+    ensures carries { IfOk result (λ f. carries_diff f.body ≡ true) }
     ensures malformed { IsErrOf result MessageFault.Malformed → (d : Data) → ¬ SpellsFrame text.now d }
 {
     match Json::from_slice(alloc, text) {

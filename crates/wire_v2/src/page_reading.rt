@@ -134,6 +134,7 @@ fn read_diff(alloc: Global, value: &Json) -> Result<Diff, MessageFault>
 fn page_with(alloc: Global, value: &Json, events: &Json) -> Result<(Diff, Pushes), MessageFault>
     requires { get (codes "e") (view value.now) ≡ Some (view events.now) }
     ensures ok { IfOk result (λ p. (is_page (view value.now) ≡ true) × (page_data p.0 p.1 ≡ view value.now)) }
+    ensures carries { IfOk result (λ p. is_diff (diff_data p.0) ≡ true) }
     ensures malformed { IsErrOf result MessageFault.Malformed → is_page (view value.now) ≡ false }
 {
     let events = listed_events(alloc, events)?;
@@ -145,6 +146,7 @@ fn page_with(alloc: Global, value: &Json, events: &Json) -> Result<(Diff, Pushes
 /// The diff that a JSON value is, with the events under `e`, where it stands.
 pub fn read_page(alloc: Global, value: &Json) -> Result<(Diff, Pushes), MessageFault>
     ensures ok { IfOk result (λ p. (is_page (view value.now) ≡ true) × (page_data p.0 p.1 ≡ view value.now)) }
+    ensures carries { IfOk result (λ p. is_diff (diff_data p.0) ≡ true) }
     ensures malformed { IsErrOf result MessageFault.Malformed → is_page (view value.now) ≡ false }
 {
     match value.get("e") {
@@ -156,6 +158,7 @@ pub fn read_page(alloc: Global, value: &Json) -> Result<(Diff, Pushes), MessageF
 /// The same, where each node has its statics.
 pub fn read_tree(alloc: Global, value: &Json) -> Result<(Diff, Pushes), MessageFault>
     ensures ok { IfOk result (λ p. (is_tree (view value.now) ≡ true) × (page_data p.0 p.1 ≡ view value.now)) }
+    ensures carries { IfOk result (λ p. is_diff (diff_data p.0) ≡ true) }
     ensures malformed { IsErrOf result MessageFault.Malformed → is_tree (view value.now) ≡ false }
 {
     if !is_whole(value) {
