@@ -51,7 +51,7 @@ abbrev pub Absent : List ℕ → Members → Type 0
 Absent k no_members = Unit {0}
 Absent k (member l d ms) = (order k l ≡ Equal → ⊥) × Absent k ms
 
-absent_put : (k l : List ℕ) (d : Data) (ms : Members) → (order k l ≡ Equal → ⊥) → Absent k ms → Absent k (put l d ms)
+pub absent_put : (k l : List ℕ) (d : Data) (ms : Members) → (order k l ≡ Equal → ⊥) → Absent k ms → Absent k (put l d ms)
 absent_put k l d no_members h a = (h, tt)
 absent_put k l d (member m e ms) h a = by (order l m) (absent_put k l d ms h a.1)
   where
@@ -314,7 +314,7 @@ mutual
       by (Some u) None g h = tt
       by (Some u) (Some us) g h = ap (λ a. option_both tree a (merge_changes ts (trimmed cs))) g ∙ ap (option_both tree (Some u)) h
 
-  trim_merge : (c : Change) (t : Tree) → Holds (merge_change t c) (λ u. merge_change t (trimmed_change c) ≡ Some u)
+  pub trim_merge : (c : Change) (t : Tree) → Holds (merge_change t c) (λ u. merge_change t (trimmed_change c) ≡ Some u)
   trim_merge (write v) t = refl
   trim_merge (inner cs) (text t) = tt
   trim_merge (inner cs) (number n) = tt
