@@ -74,81 +74,71 @@ fn a_client_takes_frames(rt: HostRuntime) -> Result<(), Fail> {
     Ok(())
 }
 
-const JOIN: &str =
-    "[\"1\",\"1\",\"lv:a\",\"phx_reply\",{\"response\":{\"rendered\":{\"0\":\"a\",\"s\":[\"<\",\">\"]}},\"status\":\"ok\"}]";
-
-const DIFF: &str =
-    "[\"1\",\"2\",\"lv:a\",\"phx_reply\",{\"response\":{\"diff\":{\"0\":\"b\"}},\"status\":\"ok\"}]";
-
-const PLACE: &str =
-    "[\"1\",\"3\",\"lv:a\",\"phx_reply\",{\"response\":{\"diff\":{\"1\":\"c\"}},\"status\":\"ok\"}]";
-
-const PUSH: &str = "[\"1\",null,\"lv:a\",\"diff\",{\"0\":\"d\",\"e\":[[\"hi\",{}]]}]";
-
-const EMPTY: &str = "[\"1\",\"4\",\"lv:a\",\"phx_reply\",{\"response\":{},\"status\":\"ok\"}]";
-
-const NO_CIDS: &str =
-    "[\"1\",\"5\",\"lv:a\",\"phx_reply\",{\"response\":{\"cids\":[]},\"status\":\"ok\"}]";
-
-const NO_ROUTE: &str =
-    "[\"1\",\"6\",\"lv:a\",\"phx_reply\",{\"response\":{\"reason\":\"no route\"},\"status\":\"error\"}]";
-
-const CRASH: &str =
-    "[\"1\",\"7\",\"lv:a\",\"phx_reply\",{\"response\":{\"reason\":\"join crashed\"},\"status\":\"error\"}]";
-
-const CLOSE: &str = "[\"1\",\"1\",\"lv:a\",\"phx_close\",{}]";
-
-const FAULT: &str = "[\"1\",\"1\",\"lv:a\",\"phx_error\",{\"reason\":\"overrun\"}]";
+// What a client shows after the bytes of a frame, or why it did not take them.
+fn after(alloc: Global, client: &mut Client, frame: &str) -> Result<Text, OutOfMemory> {
+    match client.take(alloc, frame.as_bytes()) {
+        Ok(()) => shown(alloc, client),
+        Err(MergeFault::BadFrame) => Text::copy_of(alloc, "bad frame"),
+        Err(MergeFault::OutOfMemory) => Text::copy_of(alloc, "out of memory"),
+    }
+}
 
 #[test]
 fn a_client_takes_bytes(rt: HostRuntime) -> Result<(), Fail> {
     let alloc = rt.alloc();
     let mut client = Client::empty();
-    for (frame, fault, page) in [
-        (DIFF, Some(MergeFault::BadFrame), "no page"),
-        (JOIN, None, "<a>"),
-        (DIFF, None, "<b>"),
-        (PLACE, Some(MergeFault::BadFrame), "<b>"),
-        (PUSH, None, "<d>"),
-        (EMPTY, None, "<d>"),
-        (NO_CIDS, None, "<d>"),
-        (NO_ROUTE, None, "<d>"),
-        ("[", Some(MergeFault::BadFrame), "<d>"),
-        ("[]", Some(MergeFault::BadFrame), "<d>"),
-        (FAULT, None, "no page"),
-        (JOIN, None, "<a>"),
-        (CRASH, None, "no page"),
-        (JOIN, None, "<a>"),
-        (CLOSE, None, "no page"),
+    for (frame, page) in [
+        (
+            "[\"1\",\"2\",\"lv:a\",\"phx_reply\",{\"response\":{\"diff\":{\"0\":\"b\"}},\"status\":\"ok\"}]",
+            "bad frame",
+        ),
+        (
+            "[\"1\",\"1\",\"lv:a\",\"phx_reply\",{\"response\":{\"rendered\":{\"0\":\"a\",\"s\":[\"<\",\">\"]}},\"status\":\"ok\"}]",
+            "<a>",
+        ),
+        (
+            "[\"1\",\"2\",\"lv:a\",\"phx_reply\",{\"response\":{\"diff\":{\"0\":\"b\"}},\"status\":\"ok\"}]",
+            "<b>",
+        ),
+        (
+            "[\"1\",\"3\",\"lv:a\",\"phx_reply\",{\"response\":{\"diff\":{\"1\":\"c\"}},\"status\":\"ok\"}]",
+            "bad frame",
+        ),
+        ("{", "bad frame"),
+        ("[]", "bad frame"),
+        (
+            "[\"1\",\"4\",\"lv:a\",\"phx_reply\",{\"response\":{},\"status\":\"ok\"}]",
+            "<b>",
+        ),
+        (
+            "[\"1\",null,\"lv:a\",\"diff\",{\"0\":\"d\",\"e\":[[\"hi\",{}]]}]",
+            "<d>",
+        ),
+        (
+            "[\"1\",\"5\",\"lv:a\",\"phx_reply\",{\"response\":{\"reason\":\"no route\"},\"status\":\"error\"}]",
+            "<d>",
+        ),
+        (
+            "[\"1\",\"6\",\"lv:a\",\"phx_reply\",{\"response\":{\"reason\":\"join crashed\"},\"status\":\"error\"}]",
+            "no page",
+        ),
     ] {
-        let result = client.take(alloc, frame.as_bytes());
-        assert_eq!(rt; result.err(), fault, "at {frame}");
-        assert_eq!(rt; shown(alloc, &client)?.as_str(), page, "at {frame}");
+        assert_eq!(rt; after(alloc, &mut client, frame)?.as_str(), page, "at {frame}");
     }
     Ok(())
 }
 
-fn bytes_of(alloc: Global, texts: &[&str]) -> Result<Seq<Bytes>, OutOfMemory> {
-    let mut frames = Seq::new(alloc);
-    for text in texts {
-        frames.push(Bytes::copy_of(alloc, text.as_bytes())?)?;
-    }
-    Ok(frames)
-}
-
 #[test]
-fn a_client_takes_frames_in_order(rt: HostRuntime) -> Result<(), Fail> {
+fn a_page_ends(rt: HostRuntime) -> Result<(), Fail> {
     let alloc = rt.alloc();
-    let mut client = Client::empty();
-    let good = bytes_of(alloc, &[JOIN, DIFF, EMPTY])?;
-    assert_eq!(rt; client.take_all(alloc, good.as_slice()).err(), None);
-    assert_eq!(rt; shown(alloc, &client)?.as_str(), "<b>");
-    let bad = bytes_of(alloc, &[PUSH, PLACE, CLOSE])?;
-    assert_eq!(rt;
-        client.take_all(alloc, bad.as_slice()).err(),
-        Some(MergeFault::BadFrame)
-    );
-    assert_eq!(rt; shown(alloc, &client)?.as_str(), "<d>");
+    for end in [
+        "[\"1\",\"1\",\"lv:a\",\"phx_close\",{}]",
+        "[\"1\",\"1\",\"lv:a\",\"phx_error\",{\"reason\":\"overrun\"}]",
+    ] {
+        let mut client = Client::empty();
+        client.take_whole(alloc, part(alloc, "{\"0\":\"a\",\"s\":[\"<\",\">\"]}")?)?;
+        assert_eq!(rt; after(alloc, &mut client, end)?.as_str(), "no page", "at {end}");
+    }
     Ok(())
 }
 
@@ -156,10 +146,27 @@ fn a_client_takes_frames_in_order(rt: HostRuntime) -> Result<(), Fail> {
 fn a_client_writes_its_page(rt: HostRuntime) -> Result<(), Fail> {
     let alloc = rt.alloc();
     let mut client = Client::empty();
+    client.take_whole(alloc, part(alloc, "{\"0\":\"a\",\"s\":[\"<\",\">\"]}")?)?;
     let mut out = HeldSink::new(alloc);
     assert_eq!(rt; client.show_into(alloc, &mut out)?, Wrote::Whole);
-    client.take(alloc, JOIN.as_bytes())?;
-    assert_eq!(rt; client.show_into(alloc, &mut out)?, Wrote::Whole);
     assert_eq!(rt; out.as_slice(), b"<a>".as_slice());
+    Ok(())
+}
+
+#[test]
+fn a_client_takes_frames_up_to_a_bad_one(rt: HostRuntime) -> Result<(), Fail> {
+    let alloc = rt.alloc();
+    let mut client = Client::empty();
+    let mut frames = Seq::new(alloc);
+    for frame in [
+        "[\"1\",\"1\",\"lv:a\",\"phx_reply\",{\"response\":{\"rendered\":{\"s\":[\"a\"]}},\"status\":\"ok\"}]",
+        "[\"1\",null,\"lv:a\",\"diff\",{\"0\":\"d\"}]",
+        "[\"1\",\"1\",\"lv:a\",\"phx_close\",{}]",
+    ] {
+        frames.push(Bytes::copy_of(alloc, frame.as_bytes())?)?;
+    }
+    let result = client.take_all(alloc, frames.as_slice());
+    assert_eq!(rt; result.err(), Some(MergeFault::BadFrame));
+    assert_eq!(rt; shown(alloc, &client)?.as_str(), "a");
     Ok(())
 }

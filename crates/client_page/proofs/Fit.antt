@@ -9,13 +9,14 @@ use Rattle.std.proofs.lemmas.Bool.Decides.{eqb_tells}
 use Rattle.serde_json.specs.Data.{Data, string, array, object, Items, no_items, item, Members, no_members, member, put}
 use Rattle.serde_json.specs.Events.{items_len, members_len}
 use Rattle.serde_json.specs.Find.{get_member}
-use Rattle.serde_json.specs.Written.{has_float, items_have_float, members_have_float}
+use Rattle.serde_json.specs.Written.{has_float}
 use Rattle.serde_json.proofs.Views.{get_member-put, get_member-put_other}
 use Rattle.text_core.proofs.Keyed.{order}
 use Rattle.diff_tree.specs.Tree.{Tree, text, node, Trees, no_trees, tree, count, Change, write, Changes, no_changes, skip, change}
 use Rattle.diff_tree.specs.Grammar.{is_diff, is_place, is_value, are_places, are_texts, are_statics, statics_fit, surround, has_places, count_of}
 use Rattle.diff_tree.specs.Spelling.{Pushed, events_json, with_events, texts_json, tree_json, trees_json, change_json, changes_json}
 use Rattle.wire_v2.specs.FrameGrammar.{is_event, are_events, events_fit, is_whole, are_whole, is_page, is_tree}
+use Rattle.client_page.proofs.Drawn.{AreWhole}
 use Rattle.client_merge.specs.Laws.{reach}
 use Rattle.client_merge.proofs.JsonBack.{Absent, absent_put, absent_trees, decimal_is_place, no_s_json}
 use Rattle.client_merge.proofs.Events.{e_key, events_out, trees_absent, changes_absent, statics_absent}
@@ -29,10 +30,6 @@ both_to a b h k = rw (h, k) refl
 right_of : (a b : Bool) → b ≡ true → (a || b) ≡ true
 right_of true b h = refl
 right_of false b h = h
-
-or_parts : (a b : Bool) → (a || b) ≡ false → (a ≡ false) × (b ≡ false)
-or_parts true b h = cc
-or_parts false b h = (refl, h)
 
 -- ---- what is put
 
@@ -207,33 +204,19 @@ changes_diff cs fits h =
 -- ---- events beside them
 
 -- events without fractions
-events_are : (es : List Pushed) → items_have_float (events_json es) ≡ false → are_events (events_json es) ≡ true
+events_are : (es : List Pushed) → AreWhole es → are_events (events_json es) ≡ true
 events_are [] h = refl
-events_are (e ∷ es) h =
-    let p = or_parts (has_float e.1 || false) (items_have_float (events_json es)) h in
-    let q = or_parts (has_float e.1) false p.0 in
-    both_to (not (has_float e.1)) (are_events (events_json es)) (ap not q.0) (events_are es p.1)
+events_are (e ∷ es) h = both_to (not (has_float e.1)) (are_events (events_json es)) (ap not h.0) (events_are es h.1)
 
-put_whole : (k : List ℕ) (d : Data) (ms : Members) → members_have_float (put k d ms) ≡ false → has_float d ≡ false
-put_whole k d no_members h = (or_parts (has_float d) false h).0
-put_whole k d (member l e ms) h = by (order k l) h (put_whole k d ms)
-  where
-    by : (o : Ordering) → members_have_float (match_ordering o (member k d (member l e ms)) (member l d ms) (member l e (put k d ms))) ≡ false
-        → (members_have_float (put k d ms) ≡ false → has_float d ≡ false) → has_float d ≡ false
-    by Less g rest = (or_parts (has_float d) (members_have_float (member l e ms)) g).0
-    by Equal g rest = (or_parts (has_float d) (members_have_float ms) g).0
-    by Greater g rest = rest (or_parts (has_float e) (members_have_float (put k d ms)) g).1
-
-events_stand : (es : List Pushed) (ms : Members) → Absent e_key ms → members_have_float (with_events es ms) ≡ false → events_fit (get_member e_key (with_events es ms)) ≡ true
+events_stand : (es : List Pushed) (ms : Members) → Absent e_key ms → AreWhole es → events_fit (get_member e_key (with_events es ms)) ≡ true
 events_stand [] ms a h = ap events_fit (none_found e_key ms a)
-events_stand (e ∷ es) ms a h =
-    ap events_fit (get_member-put e_key (array (events_json (e ∷ es))) ms) ∙ events_are (e ∷ es) (put_whole e_key (array (events_json (e ∷ es))) ms h)
+events_stand (e ∷ es) ms a h = ap events_fit (get_member-put e_key (array (events_json (e ∷ es))) ms) ∙ events_are (e ∷ es) h
 
-page_fits : (es : List Pushed) (ms : Members) → Absent e_key ms → is_diff (object ms) ≡ true → members_have_float (with_events es ms) ≡ false → is_page (object (with_events es ms)) ≡ true
+page_fits : (es : List Pushed) (ms : Members) → Absent e_key ms → is_diff (object ms) ≡ true → AreWhole es → is_page (object (with_events es ms)) ≡ true
 page_fits es ms a d h =
     both_to (events_fit (get_member e_key (with_events es ms))) _ (events_stand es ms a h) (ap (λ l. is_diff (object l)) (events_out es ms a) ∙ d)
 
-pub changes_page : (cs : Changes) (es : List Pushed) → reach cs < 2 ^ 64 → TextChanges cs → members_have_float (with_events es (changes_json 0 cs)) ≡ false → is_page (object (with_events es (changes_json 0 cs))) ≡ true
+pub changes_page : (cs : Changes) (es : List Pushed) → reach cs < 2 ^ 64 → TextChanges cs → AreWhole es → is_page (object (with_events es (changes_json 0 cs))) ≡ true
 changes_page cs es fits h whole = page_fits es (changes_json 0 cs) (changes_absent 0 cs (omega (arith, fits))) (changes_diff cs fits h) whole
 
 -- statics stay where events are put
@@ -248,7 +231,7 @@ wholes_there [] ms h = h
 wholes_there (e ∷ es) ms h = wholes_put e_key (array (events_json (e ∷ es))) ms refl h
 
 pub node_page : (st : List (List ℕ)) (ts : Trees) (es : List Pushed) → count ts < 2 ^ 64 → TextTrees ts → length st ≡ suc (count ts)
-    → members_have_float (with_events es (put s_key (array (texts_json st)) (trees_json 0 ts))) ≡ false
+    → AreWhole es
     → is_tree (object (with_events es (put s_key (array (texts_json st)) (trees_json 0 ts)))) ≡ true
 node_page st ts es fits texts around whole =
     let ms : Members = put s_key (array (texts_json st)) (trees_json 0 ts) in

@@ -1,7 +1,6 @@
 -- What a process of a world of texts sends is JSON of frames.
 use Rattle.std.proofs.Common.{◌≡◌, ℕ, suc, ◌<◌, ◌^◌, List, [], ◌∷◌, length, Option, Some, None, is_some, Bool, true, false, ◌&&◌, ◌||◌, if◌then◌else◌, refl, sym, ap, ◌∙◌, subst, codes}
 use Rattle.serde_json.specs.Data.{Data, string, array, object, put}
-use Rattle.serde_json.specs.Written.{has_float, members_have_float}
 use Rattle.diff_tree.specs.Tree.{text, node, count, Change, write}
 use Rattle.diff_tree.specs.Client.{PageTree, PageDiff}
 use Rattle.diff_tree.specs.Frame.{Frame, FrameBody, empty, rendered, changed, refusal, no_cids, push, closed, faulted, reference_json, event_of, payload_of, frame_json}
@@ -24,20 +23,17 @@ use Rattle.client_merge.proofs.Changes.{Holds}
 use Rattle.client_page.proofs.Texts.{IsText, AreTexts, how_many, TextsOf}
 use Rattle.client_page.proofs.Sizes.{FewTexts, no_parts, counted, diff_small}
 use Rattle.client_page.proofs.Fit.{TextTrees, TextChanges, node_page, changes_page}
-use Rattle.client_page.proofs.Pushes.{IsAlone}
-
-or_parts : (a b : Bool) → (a || b) ≡ false → (a ≡ false) × (b ≡ false)
-or_parts true b h = cc
-or_parts false b h = (refl, h)
+use Rattle.client_page.proofs.Drawn.{AreWhole}
+use Rattle.client_page.proofs.Pushes.{SentAs}
 
 both_to : (a b : Bool) → a ≡ true → b ≡ true → (a && b) ≡ true
 both_to a b h k = rw (h, k) refl
 
--- a tree or a diff with whole numbers alone is one as it is sent
+-- a tree or a diff is one as it is sent, beside events with whole numbers alone
 abbrev pub BodyFits : FrameBody → Type 0
-BodyFits (rendered p es) = has_float (page_tree_json p es) ≡ false → is_tree (page_tree_json p es) ≡ true
-BodyFits (changed d es) = has_float (page_diff_json d es) ≡ false → is_page (page_diff_json d es) ≡ true
-BodyFits (push d es) = has_float (page_diff_json d es) ≡ false → is_page (page_diff_json d es) ≡ true
+BodyFits (rendered p es) = AreWhole es → is_tree (page_tree_json p es) ≡ true
+BodyFits (changed d es) = AreWhole es → is_page (page_diff_json d es) ≡ true
+BodyFits (push d es) = AreWhole es → is_page (page_diff_json d es) ≡ true
 BodyFits _ = Unit {0}
 
 -- ---- the whole tree
@@ -56,7 +52,7 @@ whole_texts (item i is) h = ((h.0.1, ap whole_place h.0.2), whole_texts is h.1)
 
 pub whole_fits : (st : List (List ℕ)) (is : Items) (es : List Pushed) → FewTexts is → length st ≡ suc (how_many is) → BodyFits (rendered (whole_tree st is) es)
 whole_fits st is es h around whole =
-    ap is_tree sent ∙ node_page st (whole_places is) es (subst (λ n. n < 2 ^ 64) (sym (counted is)) h.1) (whole_texts is h.0) (around ∙ ap suc (sym (counted is))) (ap has_float (sym sent) ∙ whole)
+    ap is_tree sent ∙ node_page st (whole_places is) es (subst (λ n. n < 2 ^ 64) (sym (counted is)) h.1) (whole_texts is h.0) (around ∙ ap suc (sym (counted is))) whole
   where
     sent : page_tree_json (whole_tree st is) es ≡ object (with_events es (put (codes "s") (array (texts_json st)) (trees_json 0 (whole_places is))))
     sent = ap (λ ps. object (with_events es (with_components (components_json (λ n. option_tree (part_at n (parts is))) (part_numbers ps)) (members_of (tree_json (node st (whole_places is))))))) (no_parts is h.0)
@@ -83,16 +79,16 @@ lean_texts (item i is) (item j js) h g = by (lean_place i j) (place_text i j h.0
     by None s rest = rest
     by (Some c) s rest = (s, rest)
 
-diff_page : (is js : Items) (es : List Pushed) → FewTexts is → FewTexts js → has_float (page_diff_json (lean_diff is js) es) ≡ false → is_page (page_diff_json (lean_diff is js) es) ≡ true
+diff_page : (is js : Items) (es : List Pushed) → FewTexts is → FewTexts js → AreWhole es → is_page (page_diff_json (lean_diff is js) es) ≡ true
 diff_page is js es h g whole =
-    ap is_page sent ∙ changes_page (lean_places is js) es (diff_small is js h g).0 (lean_texts is js h.0 g.0) (ap has_float (sym sent) ∙ whole)
+    ap is_page sent ∙ changes_page (lean_places is js) es (diff_small is js h g).0 (lean_texts is js h.0 g.0) whole
   where
     sent : page_diff_json (lean_diff is js) es ≡ object (with_events es (changes_json 0 (lean_places is js)))
     sent = ap (λ ps. object (with_events es (with_components (changed_json (lean_parts (parts is) ps)) (changes_json 0 (lean_places is js))))) (no_parts js g.0)
 
 pub told_fits : (is js : Items) (b : FrameBody) → FewTexts is → FewTexts js → Carries (lean_diff is js) b → BodyFits b
-told_fits is js (changed d es) h g c = subst (λ x. has_float (page_diff_json x es) ≡ false → is_page (page_diff_json x es) ≡ true) (sym c) (diff_page is js es h g)
-told_fits is js (push d es) h g c = subst (λ x. has_float (page_diff_json x es) ≡ false → is_page (page_diff_json x es) ≡ true) (sym c) (diff_page is js es h g)
+told_fits is js (changed d es) h g c = subst (λ x. AreWhole es → is_page (page_diff_json x es) ≡ true) (sym c) (diff_page is js es h g)
+told_fits is js (push d es) h g c = subst (λ x. AreWhole es → is_page (page_diff_json x es) ≡ true) (sym c) (diff_page is js es h g)
 told_fits is js empty h g c = absurd c
 told_fits is js no_cids h g c = absurd c
 told_fits is js (refusal reason) h g c = absurd c
@@ -108,29 +104,19 @@ heads None (Some r) t = refl
 heads (Some j) None t = refl
 heads (Some j) (Some r) t = refl
 
--- what is inside a reply has whole numbers where the reply has
-inside : (page : Data) → ((has_float page || false) || (false || false)) ≡ false → has_float page ≡ false
-inside page h = (or_parts (has_float page) false (or_parts (has_float page || false) (false || false) h).0).0
+body_fits : (r : Option (List ℕ)) (b : FrameBody) → BodyFits b → SentAs r b → is_body (event_of b) (reference_json r) (payload_of b) ≡ true
+body_fits r empty h s = refl
+body_fits r (rendered p es) h s = h s
+body_fits r (changed d es) h s = h s
+body_fits r (refusal reason) h s = refl
+body_fits r no_cids h s = refl
+body_fits None (push d es) h s = h s.1
+body_fits (Some t) (push d es) h s = let no = s.0 in cc
+body_fits r closed h s = refl
+body_fits r (faulted None) h s = refl
+body_fits r (faulted (Some reason)) h s = refl
 
-body_fits : (r : Option (List ℕ)) (b : FrameBody) → BodyFits b → IsAlone r b → has_float (payload_of b) ≡ false → is_body (event_of b) (reference_json r) (payload_of b) ≡ true
-body_fits r empty h a whole = refl
-body_fits r (rendered p es) h a whole = h (inside (page_tree_json p es) whole)
-body_fits r (changed d es) h a whole = h (inside (page_diff_json d es) whole)
-body_fits r (refusal reason) h a whole = refl
-body_fits r no_cids h a whole = refl
-body_fits None (push d es) h a whole = h whole
-body_fits (Some t) (push d es) h a whole = cc
-body_fits r closed h a whole = refl
-body_fits r (faulted None) h a whole = refl
-body_fits r (faulted (Some reason)) h a whole = refl
-
-pub frame_fits : (f : Frame) → BodyFits f.body → IsAlone f.reference f.body → has_float (frame_json f) ≡ false → is_frame (frame_json f) ≡ true
-frame_fits f h a whole =
+pub frame_fits : (f : Frame) → BodyFits f.body → SentAs f.reference f.body → is_frame (frame_json f) ≡ true
+frame_fits f h s =
     both_to (is_some (head_of (reference_json f.join_reference) (reference_json f.reference) (string f.topic))) (is_body (event_of f.body) (reference_json f.reference) (payload_of f.body))
-    (heads f.join_reference f.reference f.topic) (body_fits f.reference f.body h a payload)
-  where
-    payload : has_float (payload_of f.body) ≡ false
-    payload =
-        let one = or_parts (has_float (reference_json f.join_reference)) (has_float (reference_json f.reference) || (has_float (payload_of f.body) || false)) whole in
-        let two = or_parts (has_float (reference_json f.reference)) (has_float (payload_of f.body) || false) one.1 in
-        (or_parts (has_float (payload_of f.body)) false two.1).0
+    (heads f.join_reference f.reference f.topic) (body_fits f.reference f.body h s)

@@ -16,7 +16,8 @@ use Rattle.doc_model.proofs.StepKinds.{IsQuiet, AllQuiet, IsPlain, AllPlain, Car
 use Rattle.doc_model.proofs.Journals.{Draws, scope_before, walk_before, drawn}
 use Rattle.client_merge.specs.Alike.{IsSmallBody, IsSmallDiff}
 use Rattle.client_page.specs.Shown.{IsTextWorld}
-use Rattle.client_page.proofs.Texts.{how_many, TextsOf, renders_texts}
+use Rattle.client_page.proofs.Texts.{how_many, TextsOf, Rendered}
+use Rattle.client_page.proofs.Drawn.{drawn_texts}
 use Rattle.client_page.proofs.Sizes.{FewTexts, page_small, diff_small}
 use Rattle.client_page.proofs.Fitting.{BodyFits, cut_len, whole_fits, told_fits}
 
@@ -78,10 +79,8 @@ told_small d (faulted reason) h c = absurd c
 module _ (w : World) (texts : IsTextWorld w) where
   met_texts : (v : ℕ) (s : Turning) (is : Items) (r : Walk Rest) → Draws w levels v s is r → TextsOf (places_of (texts.nodes v)) is
   met_texts v s is r d =
-      let all : On (λ (p : Items × Walk Rest). TextsOf (places_of (texts.nodes v)) p.0) (render_state (views_of w.views) w.site levels (scope_before s) (w.template_of v) (walk_before s))
-      = subst (λ ns. On (λ (p : Items × Walk Rest). TextsOf (places_of (texts.nodes v)) p.0) (render_state (views_of w.views) w.site levels (scope_before s) ns (walk_before s))) (sym (texts.template_is v))
-      (renders_texts Rest (views_of w.views) w.site levels (scope_before s) (texts.nodes v) (walk_before s)) in
-      subst (On (λ (p : Items × Walk Rest). TextsOf (places_of (texts.nodes v)) p.0)) d all
+      let these : Rendered (places_of (texts.nodes v)) (walk_before s) (is, r) = subst (On (Rendered (places_of (texts.nodes v)) (walk_before s))) d (drawn_texts w texts v s) in
+      these.0
 
   few_texts : (v : ℕ) (is : Items) → TextsOf (places_of (texts.nodes v)) is → FewTexts is
   few_texts v is h = (h.0, subst (λ n. n < 2 ^ 64) (sym h.1) (texts.few v))

@@ -19,7 +19,7 @@ use Rattle.client_merge.specs.Alike.{AreSmallFrames, HoldsAlike}
 use Rattle.client_merge.proofs.Follows.{all_alike}
 use Rattle.live_page.specs.World.{site}
 use Rattle.client_page.specs.Shown.{IsTextWorld, AreReadable, ShowsText, ClientShowsPage}
-use Rattle.client_page.proofs.Pushes.{AreAlone, frames_alone}
+use Rattle.client_page.proofs.Pushes.{AreSentAs, frames_sent}
 use Rattle.client_page.proofs.Fitting.{frame_fits}
 use Rattle.client_page.proofs.Sends.{AreSound, frames_sound}
 
@@ -56,9 +56,9 @@ mutual
 
 -- ---- the frames of a process
 
-small_frames : (fs : List Frame) → AreSound fs → AreAlone fs → AreReadable fs → AreSmallFrames fs
+small_frames : (fs : List Frame) → AreSound fs → AreSentAs fs → AreReadable fs → AreSmallFrames fs
 small_frames [] h a r = tt
-small_frames (f ∷ fs) h a r = ((h.0.0, (r.0.0, r.0.1, frame_fits f h.0.1 a.0 r.0.2)), small_frames fs h.1 a.1 r.1)
+small_frames (f ∷ fs) h a r = ((h.0.0, (r.0.0, r.0.1, frame_fits f h.0.1 a.0)), small_frames fs h.1 a.1 r.1)
 
 shows_alike : (w : World) (o : Option Page) (takes : Option (Option PageTree)) (reads : Option (Option Tree)) → ClientFollows w o takes → HoldsAlike takes reads → ShowsText w o reads
 shows_alike w None None reads f a = absurd f
@@ -74,4 +74,4 @@ client_shows_page w texts es readable =
     let fs = frames_from w begin_standing es in
     let all = all_frames_show w es (is_linked w texts) in
     shows_alike w (replay_journal w es).state.page (client_takes_all all.0 None fs) (client_reads_all None (spelled fs)) all.1
-    (all_alike all.0 None fs tt (small_frames fs (frames_sound w texts begin_standing es tt) (frames_alone w begin_standing es) readable))
+    (all_alike all.0 None fs tt (small_frames fs (frames_sound w texts begin_standing es tt) (frames_sent w texts begin_standing es) readable))

@@ -1,8 +1,7 @@
 -- What a client shows that reads the bytes of a process's frames.
-use Rattle.std.specs.Prelude.{◌≡◌, ◌<◌, ◌^◌, ℕ, List, [], ◌∷◌, length, Option, Some, None, Ok, true, false}
+use Rattle.std.specs.Prelude.{◌≡◌, ◌<◌, ◌^◌, ℕ, List, [], ◌∷◌, length, Option, Some, None, Ok, true}
 use Rattle.std.specs.Str.{is_utf8}
 use Rattle.serde_json.specs.Read.{read}
-use Rattle.serde_json.specs.Written.{has_float}
 use Rattle.diff_tree.specs.Tree.{Tree}
 use Rattle.diff_tree.specs.Frame.{Frame, frame_json}
 use Rattle.slot_compile.specs.declared.template.Node.{Node}
@@ -21,10 +20,10 @@ pub record IsTextWorld (w : World) : Type 0 where
   pub few : (v : ℕ) → length (places_of (nodes v)) < 2 ^ 64
   pub calls_nothing : w.site ≡ site
 
--- the bytes of a frame are UTF-8, and its JSON value is read from them, and has whole numbers alone: so it is where it nests
--- at most 127 deep, its keys are in order, and its numbers have 64 bits
+-- the bytes of a frame are UTF-8, and its JSON value is read from them: so it is where it nests at most 127 deep, the keys
+-- of what is pushed are in order, and its numbers have 64 bits
 abbrev pub IsReadable : Frame → Type 0
-IsReadable f = (is_utf8 (frame_bytes f) ≡ true) × (read (frame_bytes f) ≡ Some (frame_json f)) × (has_float (frame_json f) ≡ false)
+IsReadable f = (is_utf8 (frame_bytes f) ≡ true) × (read (frame_bytes f) ≡ Some (frame_json f))
 
 abbrev pub AreReadable : List Frame → Type 0
 AreReadable [] = Unit {0}
