@@ -6,7 +6,7 @@ use Rattle.std.specs.Fmt.{decimal}
 use Rattle.std.proofs.lemmas.Map.Lookups.{exact_bytes}
 use Rattle.serde_json.specs.Data.{Data, null, boolean, number, string, array, object, Members, no_members, member, put}
 use Rattle.text_core.proofs.Keyed.{order}
-use Rattle.diff_tree.specs.Tree.{Trees, no_trees, tree, count, Change, Changes, no_changes, skip, change}
+use Rattle.diff_tree.specs.Tree.{Trees, no_trees, tree, count, Changes, no_changes, skip, change}
 use Rattle.diff_tree.specs.Grammar.{is_diff, are_places, is_place, is_value, statics_fit}
 use Rattle.diff_tree.specs.Spelling.{Pushed, events_json, with_events, members_of, tree_json, trees_json, change_json, changes_json}
 use Rattle.diff_tree.proofs.Order.{apart_back}

@@ -1,20 +1,18 @@
 -- Frames of texts and nodes alone, read as they are taken.
-use Rattle.std.proofs.Common.{◌≡◌, ℕ, suc, ◌+◌, ◌<◌, ◌≤◌, ◌^◌, List, [], ◌∷◌, map, Option, Some, None, is_some, Bool, true, false, ◌&&◌, if◌then◌else◌, refl, sym, ap, ◌∙◌, subst, arith, codes, true≢false}
+use Rattle.std.proofs.Common.{◌≡◌, ℕ, ◌<◌, ◌^◌, List, [], ◌∷◌, map, Option, Some, None, is_some, Bool, true, false, ◌&&◌, if◌then◌else◌, refl, sym, ap, ◌∙◌, subst, arith, codes}
 use Rattle.std.specs.Str.{bytes_eq}
-use Rattle.serde_json.specs.Data.{Data, string, array, object, Members, no_members, put}
-use Rattle.serde_json.specs.Written.{compact_text}
-use Rattle.diff_tree.specs.Tree.{Tree, text, number, node, list, stream, held, Trees, no_trees, Change, write, inner, rows, batch, Changes, no_changes, skip, change, merge_change, opened}
-use Rattle.diff_tree.specs.Client.{PageTree, PageDiff, and_then, numbers_in, judged, dropped, opened_tree, merge_components, with_numbers, merge_parts, merge_diff}
+use Rattle.serde_json.specs.Data.{Data, string, array, object, Members, put}
+use Rattle.diff_tree.specs.Tree.{Tree, text, number, node, list, stream, held, Change, write, inner, rows, batch, Changes, no_changes, skip, change, merge_change, opened}
+use Rattle.diff_tree.specs.Client.{PageTree, PageDiff, and_then, judged, dropped, opened_tree, merge_components, with_numbers}
 use Rattle.diff_tree.specs.Frame.{Frame, FrameBody, empty, rendered, changed, refusal, no_cids, push, closed, faulted, reference_json, event_of, payload_of, frame_json, held_diff, client_takes, client_takes_all}
 use Rattle.diff_tree.specs.Spelling.{Pushed, with_events, with_components, components_json, members_of, tree_json, trees_json, texts_json, changes_json, page_tree_json, page_diff_json}
 use Rattle.wire_v2.specs.Message.{head_of}
-use Rattle.wire_v2.specs.FrameGrammar.{is_whole, is_page, is_tree, is_body, is_frame, without_events, SpellsFrame}
+use Rattle.wire_v2.specs.FrameGrammar.{is_whole, is_page, is_body, is_frame, without_events}
 use Rattle.client_merge.specs.Laws.{IsSmall, ChangesAreSmall, reach}
-use Rattle.client_merge.specs.Reading.{change_of, tree_of, written, merge_data}
-use Rattle.client_merge.specs.Page.{merged_page}
-use Rattle.client_merge.specs.Frames.{page_with, page_taken, page_changed, after_event, after_frame, client_reads, client_reads_all}
+use Rattle.client_merge.specs.Reading.{change_of, tree_of, written}
+use Rattle.client_merge.specs.Frames.{page_with, page_taken, page_changed, after_event, client_reads, client_reads_all}
 use Rattle.client_merge.specs.Alike.{root_held, IsSmallPage, HoldsSmall, IsSmallDiff, IsSmallBody, frame_bytes, IsSmallFrame, AreSmallFrames, HoldsAlike, EndInChange, EndsInChange, BodyEndsInChange}
-use Rattle.client_merge.proofs.Changes.{Holds, holds}
+use Rattle.client_merge.proofs.Changes.{Holds}
 use Rattle.client_merge.proofs.JsonBack.{tree_reads, change_reads, trimmed, trimmed_change, trim_merge, shifted}
 use Rattle.client_merge.proofs.Events.{events_out, trees_absent, changes_absent, statics_absent}
 use Rattle.client_merge.proofs.Bytewise.{reads_spelled}

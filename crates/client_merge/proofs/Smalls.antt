@@ -1,5 +1,5 @@
 -- Trees of texts and nodes alone, taken and merged by a client of the definitions.
-use Rattle.std.proofs.Common.{◌≡◌, ℕ, zero, suc, ◌<◌, ◌^◌, List, [], ◌∷◌, ◌++◌, Option, Some, None, option_map, Bool, true, false, ◌&&◌, if◌then◌else◌, refl, sym, ap, ◌∙◌, subst}
+use Rattle.std.proofs.Common.{◌≡◌, ℕ, zero, suc, ◌<◌, ◌^◌, List, [], ◌++◌, Option, Some, None, option_map, Bool, true, false, ◌&&◌, if◌then◌else◌, refl, sym, ap, ◌∙◌, subst}
 use Rattle.diff_tree.specs.Tree.{Tree, text, number, node, list, stream, held, Trees, no_trees, tree, count, Change, write, inner, rows, batch, Changes, no_changes, skip, change, option_both, merge_change, merge_changes, opened, opened_all}
 use Rattle.diff_tree.specs.Client.{PageTree, among, only_among, numbers_in, numbers_in_all, closed, reached, dropped, judged}
 use Rattle.client_merge.specs.Laws.{IsSmall, AreSmall, ChangeIsSmall, ChangesAreSmall}

@@ -1,7 +1,7 @@
 -- A client of the definitions, and one that reads the bytes of the same frames.
 use Rattle.std.specs.Prelude.{◌≡◌, ℕ, ◌<◌, ◌^◌, List, [], ◌∷◌, map, Option, Some, None, option_map}
 use Rattle.serde_json.specs.Written.{compact_text}
-use Rattle.diff_tree.specs.Tree.{Tree, Change, write, inner, rows, batch, Changes, no_changes, skip, change}
+use Rattle.diff_tree.specs.Tree.{Tree, Change, inner, Changes, no_changes, skip, change}
 use Rattle.diff_tree.specs.Client.{PageTree, PageDiff}
 use Rattle.diff_tree.specs.Frame.{Frame, FrameBody, rendered, changed, push, frame_json, client_takes, client_takes_all}
 use Rattle.wire_v2.specs.FrameGrammar.{SpellsFrame}

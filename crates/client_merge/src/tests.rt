@@ -123,7 +123,11 @@ fn a_client_takes_bytes(rt: HostRuntime) -> Result<(), Fail> {
             "no page",
         ),
     ] {
-        assert_eq!(rt; after(alloc, &mut client, frame)?.as_str(), page, "at {frame}");
+        assert_eq!(rt;
+            after(alloc, &mut client, frame)?.as_str(),
+            page,
+            "at {frame}"
+        );
     }
     Ok(())
 }
@@ -137,7 +141,11 @@ fn a_page_ends(rt: HostRuntime) -> Result<(), Fail> {
     ] {
         let mut client = Client::empty();
         client.take_whole(alloc, part(alloc, "{\"0\":\"a\",\"s\":[\"<\",\">\"]}")?)?;
-        assert_eq!(rt; after(alloc, &mut client, end)?.as_str(), "no page", "at {end}");
+        assert_eq!(rt;
+            after(alloc, &mut client, end)?.as_str(),
+            "no page",
+            "at {end}"
+        );
     }
     Ok(())
 }

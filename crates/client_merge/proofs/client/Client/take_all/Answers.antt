@@ -1,4 +1,4 @@
-use Rattle.std.proofs.Common.{rules, ◌≡◌, ◌≤◌, ℕ, List, length, get_or, None, ap, ◌∙◌, arith, sym, subst}
+use Rattle.std.proofs.Common.{rules, ◌≡◌, ◌≤◌, length, None, ap, ◌∙◌, arith, sym, subst}
 use Rattle.client_merge.specs.Frames.{client_reads, ReadsFront}
 use Rattle.client_merge.specs.Page.{tree_held}
 use Rattle.client_merge.proofs.InOrder.{stops, front, all_read, on_err}
