@@ -192,10 +192,11 @@ events_spell (member name d ms) es h =
     more rest (Some ts) e [] ss p g = cc
     more rest (Some ts) e (r ∷ rs) ss p g =
         let same_event : entry name ss ≡ r = cc in
-        let same_more : ts ≡ rs = cc in
-        (sym (ap (λ (x : KeyValue (List Step)). x.key) same_event),
-        subst (λ (x : List Step). (ds : Items) × (d ≡ array ds) × SpellsSteps ds x) (ap (λ (x : KeyValue (List Step)). x.value) same_event) p,
-        rest rs (e ∙ ap Some same_more))
+        let same_more : ts ≡ rs = cc in (
+          sym (ap (λ (x : KeyValue (List Step)). x.key) same_event),
+          subst (λ (x : List Step). (ds : Items) × (d ≡ array ds) × SpellsSteps ds x) (ap (λ (x : KeyValue (List Step)). x.value) same_event) p,
+          rest rs (e ∙ ap Some same_more),
+        )
 
 same_entry : (e : KeyValue (List Step)) (name : List ℕ) → e.key ≡ name → entry name e.value ≡ e
 same_entry e name h = ap (λ (k : List ℕ). entry k e.value) (sym h)
@@ -324,9 +325,12 @@ manifest_from_parts t None p m h = cc
 manifest_from_parts t (Some s) None m h = cc
 manifest_from_parts t (Some s) (Some es) m h =
     let c = cond_some (all_constant s && events_keep_to s es) (Some (manifest t s es)) m h in
-    let e : manifest t s es ≡ m = some_is (manifest t s es) m c.1 in
-    (ap (λ (x : Manifest). x.template) e, ap (λ (x : Manifest). Some x.mount) e, ap (λ (x : Manifest). Some x.events) e,
-    subst (λ (x : Manifest). (all_constant x.mount && events_keep_to x.mount x.events) ≡ true) e c.0)
+    let e : manifest t s es ≡ m = some_is (manifest t s es) m c.1 in (
+      ap (λ (x : Manifest). x.template) e,
+      ap (λ (x : Manifest). Some x.mount) e,
+      ap (λ (x : Manifest). Some x.events) e,
+      subst (λ (x : Manifest). (all_constant x.mount && events_keep_to x.mount x.events) ≡ true) e c.0,
+    )
 
 view_spells : (d : Data) (m : Manifest) → entry_in d ≡ Some m → SpellsView d m.template m.mount m.events
 view_spells d m h =

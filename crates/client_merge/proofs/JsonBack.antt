@@ -51,7 +51,7 @@ abbrev pub Absent : List ℕ → Members → Type 0
 Absent k no_members = Unit {0}
 Absent k (member l d ms) = (order k l ≡ Equal → ⊥) × Absent k ms
 
-absent_put : (k l : List ℕ) (d : Data) (ms : Members) → (order k l ≡ Equal → ⊥) → Absent k ms → Absent k (put l d ms)
+pub absent_put : (k l : List ℕ) (d : Data) (ms : Members) → (order k l ≡ Equal → ⊥) → Absent k ms → Absent k (put l d ms)
 absent_put k l d no_members h a = (h, tt)
 absent_put k l d (member m e ms) h a = by (order l m) (absent_put k l d ms h a.1)
   where
@@ -63,7 +63,7 @@ absent_put k l d (member m e ms) h a = by (order l m) (absent_put k l d ms h a.1
 other_key : (n m : ℕ) → n < 2 ^ 64 → m < 2 ^ 64 → n < m → order (decimal n) (decimal m) ≡ Equal → ⊥
 other_key n m p q below is = let same = decimal_injective n m p q (exact_bytes (decimal n) (decimal m) is) in omega arith
 
-absent_trees : (n m : ℕ) (ts : Trees) → n < m → m + count ts ≤ 2 ^ 64 → Absent (decimal n) (trees_json m ts)
+pub absent_trees : (n m : ℕ) (ts : Trees) → n < m → m + count ts ≤ 2 ^ 64 → Absent (decimal n) (trees_json m ts)
 absent_trees n m no_trees below fits = tt
 absent_trees n m (tree t ts) below fits =
     absent_put (decimal n) (decimal m) (tree_json t) (trees_json (suc m) ts) (other_key n m (omega arith) (omega arith) below) (absent_trees n (suc m) ts (omega arith) (omega arith))
@@ -234,7 +234,7 @@ trees_back : (ts : Trees) → trees_of (writes_from ts) ≡ Some ts
 trees_back no_trees = refl
 trees_back (tree t ts) = ap (option_map (tree t)) (trees_back ts)
 
-no_s_json : (n : ℕ) (cs : Changes) → n + reach cs ≤ 2 ^ 64 → get_member s_key (changes_json n cs) ≡ None
+pub no_s_json : (n : ℕ) (cs : Changes) → n + reach cs ≤ 2 ^ 64 → get_member s_key (changes_json n cs) ≡ None
 no_s_json n no_changes fits = refl
 no_s_json n (skip cs) fits = no_s_json (suc n) cs (omega arith)
 no_s_json n (change c cs) fits =
@@ -314,7 +314,7 @@ mutual
       by (Some u) None g h = tt
       by (Some u) (Some us) g h = ap (λ a. option_both tree a (merge_changes ts (trimmed cs))) g ∙ ap (option_both tree (Some u)) h
 
-  trim_merge : (c : Change) (t : Tree) → Holds (merge_change t c) (λ u. merge_change t (trimmed_change c) ≡ Some u)
+  pub trim_merge : (c : Change) (t : Tree) → Holds (merge_change t c) (λ u. merge_change t (trimmed_change c) ≡ Some u)
   trim_merge (write v) t = refl
   trim_merge (inner cs) (text t) = tt
   trim_merge (inner cs) (number n) = tt

@@ -7,3 +7,8 @@ pub mod Numbers
 pub mod Applies
 pub mod Shows
 pub mod JsonBack
+pub mod Events
+pub mod Bytewise
+pub mod Smalls
+pub mod Follows
+pub mod InOrder

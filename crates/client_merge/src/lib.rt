@@ -3,6 +3,7 @@
 
 mod client;
 mod fault;
+mod frames;
 mod held;
 pub mod laws;
 mod merging;

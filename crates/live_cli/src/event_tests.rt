@@ -30,7 +30,13 @@ fn played(alloc: Global, template: &str, script: &str) -> Result<(Status, HeldSi
     let mut files = folder(alloc, template)?;
     let mut source = HeldSource::new(text.as_str().as_bytes());
     let mut out = HeldSink::new(alloc);
-    let status = offline(alloc, &["replay", "home"], &mut files, &mut source, &mut out);
+    let status = offline(
+        alloc,
+        &["replay", "home"],
+        &mut files,
+        &mut source,
+        &mut out,
+    );
     Ok((status, out))
 }
 

@@ -1,0 +1,123 @@
+//! A client takes the bytes of frames, and shows its page.
+ghost use Rattle.std.specs.Prelude.{◌≡◌, Some, None, Option, OnOk, OnErr, IfOk};
+ghost use Rattle.std.specs.Result.{IsErrOf};
+ghost use Rattle.text_core.specs.Outside.{Writes, Rises};
+ghost use Rattle.diff_tree.specs.Tree.{Tree};
+ghost use Rattle.client_merge.specs.declared.fault.MergeFault.TheVariants as MergeFault;
+ghost use Rattle.client_merge.specs.Bodies.{after_body, after_refusal};
+ghost use Rattle.client_merge.specs.Frames.{client_reads};
+
+use crate::{Client, MergeFault};
+use std::alloc::Global;
+use text_core::{Bytes, OutOfMemory, Sink, Text, Wrote};
+use wire_v2::{Frame, FrameBody, MessageFault, read_frame};
+
+// The frame that bytes spell, if they spell one.
+fn frame_of(alloc: Global, frame: &[u8]) -> Result<Frame, MergeFault>
+    ensures ok { IfOk result (λ f. (held : Option Tree) → client_reads held frame.now ≡ after_body held f.body) }
+    ensures bad { IsErrOf result MergeFault.BadFrame → (held : Option Tree) → client_reads held frame.now ≡ None }
+{
+    match read_frame(alloc, frame) {
+        Ok(frame) => Ok(frame),
+        Err(MessageFault::Malformed) => Err(MergeFault::BadFrame),
+        Err(MessageFault::OutOfMemory) => Err(MergeFault::OutOfMemory),
+    }
+}
+
+fn body_of(frame: Frame) -> FrameBody
+    ensures { result ≡ frame.body }
+{
+    let Frame {
+        join_ref,
+        reference,
+        topic,
+        body,
+    } = frame;
+    body
+}
+
+impl Client {
+    ghost use Rattle.client_merge.specs.Page.{tree_held, text_shown};
+    ghost use Rattle.client_merge.specs.Frames.{client_reads_all, ReadsFront};
+
+    /// Takes the bytes of a frame: a reply with a whole tree gives the page, a diff changes it, `phx_close`,
+    /// `phx_error` and the refusal `join crashed` end it, and other frames change nothing. Events for the page's own
+    /// code are not looked at. Bytes that spell no frame, a tree or a diff that does not fit are a BadFrame, and after
+    /// an error the client is as before.
+    pub fn take(&mut self, alloc: Global, frame: &[u8]) -> Result<(), MergeFault>
+        ensures ok { OnOk result (client_reads (tree_held self.old) frame.now ≡ Some (tree_held self.new)) }
+        ensures bad { IsErrOf result MergeFault.BadFrame → client_reads (tree_held self.old) frame.now ≡ None }
+        ensures kept { OnErr result (self.new ≡ self.old) }
+    {
+        let frame = frame_of(alloc, frame)?;
+        self.take_body(alloc, body_of(frame))
+    }
+
+    // Takes what a frame carries.
+    fn take_body(&mut self, alloc: Global, body: FrameBody) -> Result<(), MergeFault>
+        ensures ok { OnOk result (after_body (tree_held self.old) body ≡ Some (tree_held self.new)) }
+        ensures bad { IsErrOf result MergeFault.BadFrame → after_body (tree_held self.old) body ≡ None }
+        ensures kept { OnErr result (self.new ≡ self.old) }
+    {
+        match body {
+            FrameBody::Rendered { tree, events } => self.take_whole(alloc, tree.into_parts()),
+            FrameBody::Changed { diff, events } => self.take_diff(alloc, diff.into_parts()),
+            FrameBody::Pushed { diff, events } => self.take_diff(alloc, diff.into_parts()),
+            FrameBody::Refusal(reason) => {
+                self.take_refusal(&reason);
+                Ok(())
+            }
+            FrameBody::Closed => {
+                self.end();
+                Ok(())
+            }
+            FrameBody::Faulted(reason) => {
+                self.end();
+                Ok(())
+            }
+            FrameBody::Empty => Ok(()),
+            FrameBody::NoCids => Ok(()),
+        }
+    }
+
+    // A join that crashed leaves no page.
+    fn take_refusal(&mut self, reason: &Text)
+        ensures { after_refusal (tree_held self.old) reason.now ≡ Some (tree_held self.new) }
+    {
+        if reason.as_str() == "join crashed" {
+            self.end();
+        }
+    }
+
+    /// Takes frames in order, up to the first that it does not take: that one is a BadFrame, or memory was wanting.
+    /// After an error it holds what the frames before that one made.
+    pub fn take_all(&mut self, alloc: Global, frames: &[Bytes]) -> Result<(), MergeFault>
+        ensures ok { OnOk result (client_reads_all (tree_held self.old) frames.now ≡ Some (tree_held self.new)) }
+        ensures bad { IsErrOf result MergeFault.BadFrame → client_reads_all (tree_held self.old) frames.now ≡ None }
+        ensures front { OnErr result (ReadsFront (tree_held self.old) frames.now (tree_held self.new)) }
+    {
+        'frames: for frame in frames {
+            self.take(alloc, frame.as_slice())?;
+        }
+        Ok(())
+    }
+
+    /// Writes what its page shows, and nothing where it holds no page. Where memory is wanting nothing is written.
+    pub fn show_into<S: Sink>(&self, alloc: Global, sink: &mut S) -> Result<Wrote, OutOfMemory>
+        ensures bytes { IfOk result (Writes (S.written sink.old) (S.written sink.new) (text_shown (tree_held self.now))) }
+        ensures cause { IfOk result (Rises (S.failed sink.old) (S.failed sink.new)) }
+        ensures kept { OnErr result (sink.new ≡ sink.old) }
+    {
+        match self.html(alloc)? {
+            Some(page) => Ok(write_page(sink, &page)),
+            None => Ok(Wrote::Whole),
+        }
+    }
+}
+
+fn write_page<S: Sink>(sink: &mut S, page: &Text) -> Wrote
+    ensures bytes { Writes (S.written sink.old) (S.written sink.new) page.now result }
+    ensures cause { Rises (S.failed sink.old) (S.failed sink.new) result }
+{
+    sink.write(page.as_str().as_bytes())
+}
