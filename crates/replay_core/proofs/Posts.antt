@@ -1,14 +1,16 @@
 -- What a process does with a text, and with the message at its front.
-use Rattle.std.proofs.Common.{◌≡◌, ◌≢◌, ◌≤◌, ◌<◌, ◌+◌, ℕ, List, [], ◌∷◌, ◌++◌, length, Option, Some, None, Result, Ok, Err, refl, sym, ap, ◌∙◌, absurd}
+use Rattle.std.proofs.Common.{◌≡◌, ◌≢◌, ◌≤◌, ◌<◌, ◌+◌, ℕ, List, [], ◌∷◌, ◌++◌, length, Option, Some, None, Result, Ok, Err, refl, sym, ap, ◌∙◌}
 use Rattle.std.proofs.lemmas.Bool.{lt-ltb, le-ltb, le-leb, lt-leb}
 use Rattle.machine_api.specs.declared.machine.PostFault.TheVariants as fault
 use Rattle.machine_api.specs.Steps.{Posts, Fits, inbox_limit, journal_limit}
 use Rattle.view_api.specs.Meaning.{HandlerMeaning}
+use Rattle.live_page.specs.declared.app.App.{App}
 use Rattle.doc_model.specs.Effects.{Waiting}
 use Rattle.doc_model.specs.Journal.{spelled}
 use Rattle.doc_model.specs.Process.{World, Page, page_text}
 use Rattle.session_core.specs.Machine.{Machine, standing_of, kept_size, front_step}
-use Rattle.session_core.specs.Handles.{Adds, ShowsUp}
+use Rattle.process_core.specs.Shown.{ShowsUp}
+use Rattle.session_core.specs.Handles.{Adds}
 use Rattle.session_core.specs.declared.entry.Entry.{Entry}
 use Rattle.session_core.specs.declared.entry.Entry.TheVariants as entry
 use Rattle.replay_core.specs.declared.player.Posted.{Posted}
@@ -25,12 +27,15 @@ full waiting kept asked h = let a = le-ltb waiting inbox_limit h in rw a refl
 journal_full : (waiting kept asked : ℕ) → waiting < inbox_limit → journal_limit < kept + asked → posted_at waiting kept asked ≡ posted.JournalFull
 journal_full waiting kept asked h k = let a = lt-ltb waiting inbox_limit h in let b = lt-leb (kept + asked) journal_limit k in rw (a, b) refl
 
+abbrev machine : {V : Type 0} → App V → List (ℕ × Entry) → Machine V
+machine app journal = record { app = app; journal = journal }
+
 -- machines with one app and one journal are one
 same_machine : {V : Type 0} (old new : Machine V) → new.app ≡ old.app → new.journal ≡ old.journal → new ≡ old
-same_machine old new a j = cc
+same_machine old new a j = ap (λ x. machine x new.journal) a ∙ ap (machine old.app) j
 
 one_more : {V : Type 0} (old new : Machine V) (e : Entry) → new.app ≡ old.app → new.journal ≡ old.journal ++ (0, e) ∷ [] → new ≡ with_entry e old
-one_more old new e a j = cc
+one_more old new e a j = ap (λ x. machine x new.journal) a ∙ ap (machine old.app) j
 
 module _ {V : Type 0} (meaning : V → HandlerMeaning) (old new : Machine V) (text : List ℕ) (same : new.app ≡ old.app) where
   abbrev waits : ℕ
@@ -45,7 +50,7 @@ module _ {V : Type 0} (meaning : V → HandlerMeaning) (old new : Machine V) (te
   pub taken : (place : ℕ) → Posts 0 (entry.Heard text) asks waits (kept_size old) old.journal (Ok place) new.journal → Gives posted.Taken
   taken place h =
       let is = fits waits (kept_size old) asks h.0 in
-      (one_more old new (entry.Heard text) same h.2.1 ∙ sym (ap (λ p. takes p text old) is), sym is)
+      (one_more old new (entry.Heard text) same h.2 ∙ sym (ap (λ p. takes p text old) is), sym is)
 
   pub refused_full : Posts 0 (entry.Heard text) asks waits (kept_size old) old.journal (Err fault.Full) new.journal → Gives posted.Full
   refused_full h =
@@ -55,7 +60,7 @@ module _ {V : Type 0} (meaning : V → HandlerMeaning) (old new : Machine V) (te
   pub refused_journal : (k a : ℕ) → Posts 0 (entry.Heard text) asks waits (kept_size old) old.journal (Err (fault.JournalFull k a)) new.journal → Gives posted.JournalFull
   refused_journal k a h =
       let is = journal_full waits (kept_size old) asks h.0 h.1 in
-      (same_machine old new same h.2.2.2 ∙ sym (ap (λ p. takes p text old) is), sym is)
+      (same_machine old new same h.4 ∙ sym (ap (λ p. takes p text old) is), sym is)
 
 -- where a message waits, handling it adds its outcome
 with_front : {V : Type 0} (meaning : V → HandlerMeaning) (waiting : List Waiting) (m : Machine V) → waiting ≢ [] → takes_front meaning waiting m ≡ with_entry (entry.Handled (spelled (front_step meaning m).frames)) m

@@ -27,11 +27,20 @@ without-absent k (e ∷ es) h =
     let parts = no_entry (bytes_eq k e.key) e.value (lookup k es) h in
     ap (λ b. cond b es (e ∷ without_key k es)) parts.0 ∙ ap (λ r. e ∷ r) (without-absent k es parts.1)
 
+-- what becomes of the browsers by what stands under a name
+abbrev changed_by : {V : Type 0} → List ℕ → (Player V → Player V) → Board V → Option (Player V) → Board V
+changed_by name f board None = board
+changed_by name f board (Some p) = with_key name (f p) (without_key name board)
+
+is_changed : {V : Type 0} (name : List ℕ) (f : Player V → Player V) (board : Board V) (o : Option (Player V)) → changed_by name f board o ≡ elim o [ None ↦ board | Some p ↦ with_key name (f p) (without_key name board) ]
+is_changed name f board None = refl
+is_changed name f board (Some p) = refl
+
 -- a line of a browser that is not there changes nothing
 pub absent : {V : Type 0} (name key : List ℕ) (f : Player V → Player V) (board after : Board V) → key ≡ name → None ≡ lookup key board → after ≡ without_key key board → after ≡ changed name f board
 absent name key f board after same none rest =
     rest ∙ without-absent key board none
-    ∙ ap (λ (o : Option (Player V)). elim o [ None ↦ board | Some p ↦ with_key name (f p) (without_key name board) ]) (none ∙ ap (λ k. lookup k board) same)
+    ∙ ap (changed_by name f board) (none ∙ ap (λ k. lookup k board) same) ∙ is_changed name f board (lookup name board)
 
 -- what was written, where the sink tells, and what the lines that are left write are the whole output
 pub record Written {V : Type 0} (meaning : V → HandlerMeaning) (app : App V) (script : List Line) (before now : Option (List ℕ)) (board : Board V) (left : List Line) : Type 0 where
