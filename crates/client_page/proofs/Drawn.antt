@@ -5,7 +5,7 @@ use Rattle.serde_json.specs.Written.{has_float, compact_text}
 use Rattle.value_core.specs.Value.{Value, no_assigns}
 use Rattle.value_core.specs.Json.{json_of_value}
 use Rattle.value_core.specs.Nesting.{depth_of}
-use Rattle.value_core.specs.declared.raise.Raise.TheVariants.{BadArgument, Deep, InboxFull, View}
+use Rattle.value_core.specs.declared.raise.Raise.TheVariants.{BadArgument, Deep, InboxFull}
 use Rattle.view_api.specs.Effect.{Effect, assign_to, stream_insert, stream_delete, stream_reset, subscribe, unsubscribe, publish, send_self, push_event}
 use Rattle.wire_v2.proofs.NoFloat.{written_whole}
 use Rattle.diff_tree.specs.Spelling.{Pushed}
@@ -13,8 +13,8 @@ use Rattle.slot_compile.specs.Template.{places_of}
 use Rattle.doc_model.specs.Environment.{Component}
 use Rattle.doc_model.specs.Evaluation.{Res, then_do, on_res, or_raise}
 use Rattle.doc_model.specs.Trace.{Items}
-use Rattle.doc_model.specs.Walk.{Walk, Owner, owner_of, render_state}
-use Rattle.doc_model.specs.Effects.{Rest, Applied, Action, to_publish, storable, sendable, position_of, limit_of, batch_insert, insert_of, in_stream, inbox_limit, send_value, is_kept_name, assigned, acting, apply_effect, apply_effects, applied_or_raise, empty_stream, views_of, sent}
+use Rattle.doc_model.specs.Walk.{Walk, owner_of, render_state}
+use Rattle.doc_model.specs.Effects.{Rest, Applied, to_publish, storable, sendable, position_of, limit_of, batch_insert, insert_of, in_stream, inbox_limit, send_value, is_kept_name, assigned, acting, apply_effect, apply_effects, applied_or_raise, empty_stream, views_of, sent}
 use Rattle.doc_model.specs.Process.{World, Route, Page, Turning, Outcome, levels, rendered_page, turning_view, joined_page, view_turn, component_turn, with_owner}
 use Rattle.doc_model.proofs.Results.{On, on_made, on_bind, on_weaker, on_all}
 use Rattle.doc_model.proofs.Journals.{page_of, scope_before, walk_before}

@@ -1,21 +1,21 @@
 -- The JSON of texts is that of trees and diffs.
-use Rattle.std.proofs.Common.{◌≡◌, ◌⊎◌, inl, inr, ℕ, zero, suc, ◌+◌, ◌-◌, ◌<◌, ◌≤◌, ◌^◌, ◌==◌, ◌&&◌, ◌||◌, List, [], ◌∷◌, length, Option, Some, None, is_some, Bool, true, false, not, refl, sym, ap, ◌∙◌, subst, arith, codes, true≢false, Ordering, Less, Equal, Greater}
+use Rattle.std.proofs.Common.{◌≡◌, ◌⊎◌, inl, inr, ℕ, zero, suc, ◌+◌, ◌-◌, ◌<◌, ◌≤◌, ◌^◌, ◌==◌, ◌&&◌, ◌||◌, List, [], ◌∷◌, length, Some, None, is_some, Bool, true, false, not, refl, sym, ap, ◌∙◌, subst, arith, codes, true≢false, Ordering, Less, Equal, Greater}
 use Rattle.std.specs.Ordering.{match_ordering}
 use Rattle.std.specs.Str.{bytes_eq}
 use Rattle.std.specs.Fmt.{decimal}
 use Rattle.std.proofs.lemmas.Map.Lookups.{exact_bytes}
 use Rattle.std.proofs.lemmas.Fmt.{decimal_injective}
 use Rattle.std.proofs.lemmas.Bool.Decides.{eqb_tells}
-use Rattle.serde_json.specs.Data.{Data, string, array, object, Items, no_items, item, Members, no_members, member, put}
+use Rattle.serde_json.specs.Data.{Data, array, object, Members, no_members, member, put}
 use Rattle.serde_json.specs.Events.{items_len, members_len}
 use Rattle.serde_json.specs.Find.{get_member}
 use Rattle.serde_json.specs.Written.{has_float}
 use Rattle.serde_json.proofs.Views.{get_member-put, get_member-put_other}
 use Rattle.text_core.proofs.Keyed.{order}
-use Rattle.diff_tree.specs.Tree.{Tree, text, node, Trees, no_trees, tree, count, Change, write, Changes, no_changes, skip, change}
-use Rattle.diff_tree.specs.Grammar.{is_diff, is_place, is_value, are_places, are_texts, are_statics, statics_fit, surround, has_places, count_of}
+use Rattle.diff_tree.specs.Tree.{text, Trees, no_trees, tree, count, write, Changes, no_changes, skip, change}
+use Rattle.diff_tree.specs.Grammar.{is_diff, is_place, is_value, are_places, are_texts, are_statics, statics_fit, surround, has_places}
 use Rattle.diff_tree.specs.Spelling.{Pushed, events_json, with_events, texts_json, tree_json, trees_json, change_json, changes_json}
-use Rattle.wire_v2.specs.FrameGrammar.{is_event, are_events, events_fit, is_whole, are_whole, is_page, is_tree}
+use Rattle.wire_v2.specs.FrameGrammar.{are_events, events_fit, is_whole, are_whole, is_page, is_tree}
 use Rattle.client_page.proofs.Drawn.{AreWhole}
 use Rattle.client_merge.specs.Laws.{reach}
 use Rattle.client_merge.proofs.JsonBack.{Absent, absent_put, absent_trees, decimal_is_place, no_s_json}

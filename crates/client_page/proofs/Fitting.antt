@@ -1,8 +1,7 @@
 -- What a process of a world of texts sends is JSON of frames.
-use Rattle.std.proofs.Common.{◌≡◌, ℕ, suc, ◌<◌, ◌^◌, List, [], ◌∷◌, length, Option, Some, None, is_some, Bool, true, false, ◌&&◌, ◌||◌, if◌then◌else◌, refl, sym, ap, ◌∙◌, subst, codes}
-use Rattle.serde_json.specs.Data.{Data, string, array, object, put}
-use Rattle.diff_tree.specs.Tree.{text, node, count, Change, write}
-use Rattle.diff_tree.specs.Client.{PageTree, PageDiff}
+use Rattle.std.proofs.Common.{◌≡◌, ℕ, suc, ◌<◌, ◌^◌, List, [], ◌∷◌, length, Option, Some, None, is_some, Bool, true, false, ◌&&◌, if◌then◌else◌, refl, sym, ap, ◌∙◌, subst, codes}
+use Rattle.serde_json.specs.Data.{string, array, object, put}
+use Rattle.diff_tree.specs.Tree.{text, node, Change, write}
 use Rattle.diff_tree.specs.Frame.{Frame, FrameBody, empty, rendered, changed, refusal, no_cids, push, closed, faulted, reference_json, event_of, payload_of, frame_json}
 use Rattle.diff_tree.specs.Spelling.{Pushed, with_events, with_components, components_json, changed_json, members_of, texts_json, tree_json, trees_json, changes_json, page_tree_json, page_diff_json}
 use Rattle.ast_core.specs.Places.{cut}
@@ -18,9 +17,8 @@ use Rattle.doc_model.specs.Whole.{whole_places, whole_place}
 use Rattle.doc_model.specs.Lean.{option_change, lean_places, lean_place}
 use Rattle.doc_model.specs.Components.{parts, part_at, option_tree, part_numbers, whole_tree, lean_parts, lean_diff}
 use Rattle.doc_model.proofs.StepKinds.{Carries}
-use Rattle.client_merge.specs.Laws.{reach}
 use Rattle.client_merge.proofs.Changes.{Holds}
-use Rattle.client_page.proofs.Texts.{IsText, AreTexts, how_many, TextsOf}
+use Rattle.client_page.proofs.Texts.{IsText, AreTexts, how_many}
 use Rattle.client_page.proofs.Sizes.{FewTexts, no_parts, counted, diff_small}
 use Rattle.client_page.proofs.Fit.{TextTrees, TextChanges, node_page, changes_page}
 use Rattle.client_page.proofs.Drawn.{AreWhole}

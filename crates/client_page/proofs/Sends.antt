@@ -1,19 +1,19 @@
 -- What a process of a world of texts sends: nodes and texts alone.
-use Rattle.std.proofs.Common.{◌≡◌, ℕ, ◌<◌, ◌^◌, suc, List, [], ◌∷◌, ◌++◌, length, Option, Some, None, Ok, refl, sym, ap, ◌∙◌, subst}
+use Rattle.std.proofs.Common.{◌≡◌, ℕ, ◌<◌, ◌^◌, suc, List, [], ◌∷◌, ◌++◌, length, Option, Some, None, sym, ap, ◌∙◌, subst}
 use Rattle.diff_tree.specs.Client.{PageDiff}
 use Rattle.diff_tree.specs.Spelling.{Pushed}
 use Rattle.diff_tree.specs.Frame.{Frame, FrameBody, empty, rendered, changed, refusal, no_cids, push, closed, faulted}
 use Rattle.ast_core.specs.Places.{cut}
-use Rattle.slot_compile.specs.Template.{places_of, syntax_of}
+use Rattle.slot_compile.specs.Template.{places_of}
 use Rattle.doc_model.specs.Trace.{Items}
 use Rattle.doc_model.specs.Components.{whole_tree, lean_diff}
-use Rattle.doc_model.specs.Walk.{Walk, render_state}
-use Rattle.doc_model.specs.Effects.{Rest, views_of}
+use Rattle.doc_model.specs.Walk.{Walk}
+use Rattle.doc_model.specs.Effects.{Rest}
 use Rattle.doc_model.specs.Process.{World, Page, Turning, Outcome, levels}
-use Rattle.doc_model.specs.Journal.{Entry, Standing, begin_standing, process_step, after_step, frames_from}
+use Rattle.doc_model.specs.Journal.{Entry, Standing, process_step, after_step, frames_from}
 use Rattle.doc_model.proofs.Results.{On}
 use Rattle.doc_model.proofs.StepKinds.{IsQuiet, AllQuiet, IsPlain, AllPlain, Carries, Renders, Rerenders, by_kind}
-use Rattle.doc_model.proofs.Journals.{Draws, scope_before, walk_before, drawn}
+use Rattle.doc_model.proofs.Journals.{Draws, walk_before, drawn}
 use Rattle.client_merge.specs.Alike.{IsSmallBody, IsSmallDiff}
 use Rattle.client_page.specs.Shown.{IsTextWorld}
 use Rattle.client_page.proofs.Texts.{how_many, TextsOf, Rendered}

@@ -1,15 +1,14 @@
 -- A client that reads the bytes of a process's frames shows its page.
-use Rattle.std.proofs.Common.{◌≡◌, ℕ, ◌<◌, ◌^◌, List, [], ◌∷◌, ◌++◌, map, length, Option, Some, None, Ok, refl, sym, ap, ◌∙◌, subst}
-use Rattle.ast_core.specs.Syntax.{Nodes, no_nodes}
+use Rattle.std.proofs.Common.{◌≡◌, ℕ, List, [], ◌∷◌, Option, Some, None, Ok, refl, sym, ap, ◌∙◌, subst}
 use Rattle.ast_core.specs.Places.{streams_in, Once}
 use Rattle.diff_tree.specs.Tree.{Tree, text, number, node, list, stream, held, Trees, no_trees, tree, show_value, show_values, weave}
-use Rattle.diff_tree.specs.Client.{PageTree, look, show_tree}
+use Rattle.diff_tree.specs.Client.{PageTree, look}
 use Rattle.diff_tree.specs.Frame.{Frame, client_takes_all}
 use Rattle.slot_compile.specs.declared.template.Node.{Node}
 use Rattle.slot_compile.specs.declared.template.Node.TheVariants as piece
-use Rattle.slot_compile.specs.Template.{places_of, syntax_of}
-use Rattle.doc_model.specs.Process.{World, Page, page_text}
-use Rattle.doc_model.specs.Journal.{Entry, begin_standing, replay_journal, frames_from, spelled, ShowsPage}
+use Rattle.slot_compile.specs.Template.{syntax_of}
+use Rattle.doc_model.specs.Process.{World, Page}
+use Rattle.doc_model.specs.Journal.{begin_standing, replay_journal, frames_from, spelled}
 use Rattle.doc_model.specs.Headline.{IsLinked, ClientFollows}
 use Rattle.doc_model.proofs.Journals.{all_frames_show}
 use Rattle.client_merge.specs.Laws.{IsSmall, AreSmall}
@@ -17,7 +16,6 @@ use Rattle.client_merge.specs.Held.{page_of, pages_of}
 use Rattle.client_merge.specs.Frames.{client_reads_all}
 use Rattle.client_merge.specs.Alike.{AreSmallFrames, HoldsAlike}
 use Rattle.client_merge.proofs.Follows.{all_alike}
-use Rattle.live_page.specs.World.{site}
 use Rattle.client_page.specs.Shown.{IsTextWorld, AreReadable, ShowsText, ClientShowsPage}
 use Rattle.client_page.proofs.Pushes.{AreSentAs, frames_sent}
 use Rattle.client_page.proofs.Fitting.{frame_fits}

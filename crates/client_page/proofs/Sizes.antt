@@ -1,12 +1,11 @@
 -- What is sent of texts: nodes and texts alone.
-use Rattle.std.proofs.Common.{◌≡◌, ℕ, suc, ◌<◌, ◌≤◌, ◌^◌, List, [], ◌∷◌, ◌++◌, Option, Some, None, Bool, true, false, if◌then◌else◌, refl, sym, ap, ◌∙◌, subst, arith}
-use Rattle.diff_tree.specs.Tree.{text, node, count, Change, write, Changes, no_changes, skip, change}
-use Rattle.diff_tree.specs.Client.{PageTree, PageDiff}
+use Rattle.std.proofs.Common.{◌≡◌, ℕ, suc, ◌<◌, ◌≤◌, ◌^◌, List, [], ◌++◌, Option, Some, None, Bool, true, false, if◌then◌else◌, refl, sym, ap, ◌∙◌, subst, arith}
+use Rattle.diff_tree.specs.Tree.{text, count, Change, write}
 use Rattle.doc_model.specs.Environment.{same_reading}
 use Rattle.doc_model.specs.Trace.{Items, no_items, item, Item, met_text}
 use Rattle.doc_model.specs.Whole.{whole_places, whole_place}
 use Rattle.doc_model.specs.Lean.{option_change, lean_places, lean_place}
-use Rattle.doc_model.specs.Components.{Part, parts, parts_of, part_at, option_tree, part_numbers, whole_tree, lean_parts, lean_diff}
+use Rattle.doc_model.specs.Components.{parts, parts_of, part_at, option_tree, part_numbers, whole_tree, lean_parts, lean_diff}
 use Rattle.client_merge.specs.Laws.{IsSmall, AreSmall, ChangeIsSmall, ChangesAreSmall, reach}
 use Rattle.client_merge.specs.Alike.{IsSmallPage, IsSmallDiff}
 use Rattle.client_merge.proofs.Changes.{Holds}

@@ -1,10 +1,9 @@
 -- What templates of texts and assigns meet: texts alone, one for each place.
-use Rattle.std.proofs.Common.{◌≡◌, ℕ, zero, suc, ◌<◌, ◌^◌, List, [], ◌∷◌, length, map, Option, Ok, Err, refl, sym, ap, subst}
+use Rattle.std.proofs.Common.{◌≡◌, ℕ, zero, suc, List, [], ◌∷◌, length, map, Option, Ok, Err, refl, sym, ap, subst}
 use Rattle.value_core.specs.Value.{Value}
 use Rattle.text_core.specs.Escape.{escape_text}
 use Rattle.ast_core.specs.Syntax.{at, name, Nodes}
 use Rattle.ast_core.specs.Free.{free_names}
-use Rattle.ast_core.specs.Places.{places_in}
 use Rattle.slot_compile.specs.declared.template.Node.{Node}
 use Rattle.slot_compile.specs.Template.{places_of, put_assign, syntax_of}
 use Rattle.slot_compile.proofs.Syntax.{places_are_puts}
