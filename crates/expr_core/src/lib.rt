@@ -1,0 +1,8 @@
+//! The reader of expressions and patterns.
+#![tactic(auto)]
+
+mod fault;
+mod token;
+
+pub use fault::{ExprFault, ExprKind};
+pub use token::{Bracket, Placed, Token};
