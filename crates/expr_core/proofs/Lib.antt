@@ -1,1 +1,4 @@
 pub mod ExamplesTokens
+pub mod Tables
+pub mod Opens
+pub mod Marked

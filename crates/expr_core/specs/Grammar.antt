@@ -45,16 +45,16 @@ pub data Callee : Type 0 where
   marked : ℕ → List ℕ → Callee
 
 abbrev pub callee_token : Callee → Token
-callee_token (plain at name) = Word at name
-callee_token (marked at name) = Function at name
+callee_token (plain at s) = Word at s
+callee_token (marked at s) = Function at s
 
 abbrev pub callee_at : Callee → ℕ
-callee_at (plain at name) = at
-callee_at (marked at name) = at
+callee_at (plain at s) = at
+callee_at (marked at s) = at
 
 abbrev pub callee_name : Callee → List ℕ
-callee_name (plain at name) = name
-callee_name (marked at name) = name
+callee_name (plain at s) = s
+callee_name (marked at s) = s
 
 -- the key of a map's entry: `a:` with the byte of the name, or `"a" =>`
 pub data Key : Type 0 where
@@ -62,8 +62,8 @@ pub data Key : Type 0 where
   text_key : List ℕ → Key
 
 abbrev pub key_text : Key → List ℕ
-key_text (word_key at name) = name
-key_text (text_key text) = text
+key_text (word_key at s) = s
+key_text (text_key s) = s
 
 -- an `if` without parentheses around its parts, or with them
 pub data Style : Type 0 where
@@ -214,8 +214,8 @@ prefix_token un.Bang = Bang
 prefix_token un.Not = NotWord
 
 abbrev pub key_marks : ℕ → Key → List Mark
-key_marks n (word_key at name) = mark n (Word at name) ∷ mark n Colon ∷ []
-key_marks n (text_key text) = mark n (Quote text) ∷ mark n QuoteEnd ∷ mark n Arrow ∷ []
+key_marks n (word_key at s) = mark n (Word at s) ∷ mark n Colon ∷ []
+key_marks n (text_key s) = mark n (Quote s) ∷ mark n QuoteEnd ∷ mark n Arrow ∷ []
 
 -- how an `if` begins, how deep its parts stand, and how it ends
 abbrev pub if_head : ℕ → Style → List Mark

@@ -98,14 +98,12 @@ reserved_word t name rest =
   else if bytes_eq name (codes "else") && begins (codes ":") rest then cut ElseColon 5
   else cut t (length name)
 
+abbrev pub word_by : Option Row → ℕ → List ℕ → List ℕ → Cut
+word_by None at name rest = word_or_function at name (call_mark rest)
+word_by (Some r) at name rest = reserved_word r.1 name rest
+
 abbrev pub word : ℕ → List ℕ → Cut
-word at bs = by_row (row_where (bytes_eq name) reserved)
-  where
-    name = name_of bs
-    rest = drop (length name) bs
-    by_row : Option Row → Cut
-    by_row None = word_or_function at name (call_mark rest)
-    by_row (Some r) = reserved_word r.1 name rest
+word at bs = let name = name_of bs in word_by (row_where (bytes_eq name) reserved) at name (drop (length name) bs)
 
 -- words that begin with upper-case letters, with dots between them
 abbrev pub module_of : List ℕ → List ℕ
@@ -115,13 +113,12 @@ module_of (b ∷ bs) = if in_name b || (nat_eq b 46 && first_is is_ascii_upperca
 -- a module, with a dot and a name behind it the name of a call
 abbrev pub module_word : ℕ → List ℕ → Cut
 module_word at bs =
+  let modules = module_of bs in
+  let rest = drop (length modules) bs in
+  let behind = drop 1 rest in
+  let called = name_of behind in
+  let full = modules ++ codes "." ++ called ++ call_mark (drop (length called) behind) in
   if begins (codes ".") rest && (first_is begins_name behind && not (is_reserved called)) then cut (Function at full) (length full) else cut Foreign (length modules)
-  where
-    modules = module_of bs
-    rest = drop (length modules) bs
-    behind = drop 1 rest
-    called = name_of behind
-    full = modules ++ codes "." ++ called ++ call_mark (drop (length called) behind)
 
 -- Numbers.
 
@@ -136,9 +133,10 @@ value_of n [] = n
 value_of n (b ∷ bs) = value_of (if is_ascii_digit b then n * 10 + (b - 48) else n) bs
 
 abbrev pub number : List ℕ → Cut
-number bs = cut (if nat_le n 9223372036854775807 then Number (pos n) else BadNumber) (length (digits_of bs))
-  where
-    n = value_of 0 (digits_of bs)
+number bs =
+  let digits = digits_of bs in
+  let n = value_of 0 digits in
+  cut (if nat_le n 9223372036854775807 then Number (pos n) else BadNumber) (length digits)
 
 -- Atoms.
 
@@ -149,12 +147,11 @@ atom_mark rest = if begins (codes "?") rest then codes "?" else if begins (codes
 -- a colon before a letter or `_` begins an atom or nothing
 abbrev pub colon : List ℕ → Cut
 colon bs =
+  let name = name_of bs in
+  let full = name ++ atom_mark (drop (length name) bs) in
   if first_is is_ascii_uppercase bs || is_reserved name then cut Foreign 1
   else if first_is begins_name bs then cut (Atom full) (length full + 1)
   else cut Colon 1
-  where
-    name = name_of bs
-    full = name ++ atom_mark (drop (length name) bs)
 
 -- Texts.
 
@@ -175,6 +172,9 @@ pub record Piece : Type 0 where
   pub text : List ℕ
   pub size : ℕ
 
+abbrev pub no_piece : Piece
+no_piece = record { text = []; size = 0 }
+
 abbrev pub with_text : List ℕ → Piece → Piece
 with_text t p = record { text = t ++ p.text; size = p.size + 1 }
 
@@ -188,16 +188,14 @@ ends_piece bs = begins (codes "\"") bs || (begins (codes "#{") bs || (begins (co
 
 -- the characters up to there; whether the one before is a `\`
 abbrev pub piece_from : Bool → List ℕ → Piece
-piece_from slash [] = record { text = []; size = 0 }
+piece_from slash [] = no_piece
 piece_from true (c ∷ bs) = with_text (character (escaped c)) (piece_from false bs)
-piece_from false (b ∷ bs) = if ends_piece (b ∷ bs) then record { text = []; size = 0 } else with_text (if nat_eq b 92 then [] else b ∷ []) rest
-  where
-    rest = piece_from (nat_eq b 92) bs
+piece_from false (b ∷ bs) =
+  let rest = piece_from (nat_eq b 92) bs in
+  if ends_piece (b ∷ bs) then no_piece else with_text (if nat_eq b 92 then [] else b ∷ []) rest
 
 abbrev pub with_piece : (List ℕ → Token) → List ℕ → Cut
-with_piece token bs = cut (token p.text) (p.size + 1)
-  where
-    p = piece_from false bs
+with_piece token bs = let p = piece_from false bs in cut (token p.text) (p.size + 1)
 
 -- What stands before.
 
@@ -220,7 +218,7 @@ ends_name _ = false
 
 -- the openings that are not closed, the innermost first
 abbrev pub opened : List Placed → Placed → List Placed
-opened open p = by_token p.token open
+opened opens p = by_token p.token opens
   where
     behind : List Placed → List Placed
     behind [] = []
@@ -257,19 +255,19 @@ in_part (o ∷ os) = is_part o.token
 
 -- a sign by what stands directly before it, and by the innermost opening
 abbrev pub sign_token : Option Token → List Placed → Token → List ℕ → Cut
-sign_token last open OpeningRound rest = cut (if ends_name last then CallOpening else OpeningRound) 1
-sign_token last open OpeningSquare rest = cut (if ends_value last then IndexOpening else OpeningSquare) 1
-sign_token last open Dot rest = cut (if ends_value last then Dot else Foreign) 1
-sign_token last open (Closing Curly) rest = if in_part open then with_piece PartClosing rest else cut (Closing Curly) 1
-sign_token last open Colon rest = colon rest
-sign_token last open t rest = cut t 1
+sign_token last os OpeningRound rest = cut (if ends_name last then CallOpening else OpeningRound) 1
+sign_token last os OpeningSquare rest = cut (if ends_value last then IndexOpening else OpeningSquare) 1
+sign_token last os Dot rest = cut (if ends_value last then Dot else Foreign) 1
+sign_token last os (Closing Curly) rest = if in_part os then with_piece PartClosing rest else cut (Closing Curly) 1
+sign_token last os Colon rest = colon rest
+sign_token last os t rest = cut t 1
+
+abbrev pub sign_by : Option Row → Option Token → List Placed → List ℕ → Cut
+sign_by None last os bs = cut Foreign 1
+sign_by (Some r) last os bs = if nat_eq (length r.0) 1 then sign_token last os r.1 (drop 1 bs) else cut r.1 (length r.0)
 
 abbrev pub sign : Option Token → List Placed → List ℕ → Cut
-sign last open bs = by_row (row_where (λ s. begins s bs) signs)
-  where
-    by_row : Option Row → Cut
-    by_row None = cut Foreign 1
-    by_row (Some r) = if nat_eq (length r.0) 1 then sign_token last open r.1 (drop 1 bs) else cut r.1 (length r.0)
+sign last os bs = sign_by (row_where (λ s. begins s bs) signs) last os bs
 
 -- The tokens.
 
@@ -280,7 +278,12 @@ behind_piece bs =
   else if begins (codes "\\") bs && nat_eq (length bs) 1 then passed else cut Foreign 1
 
 pub data Beginning : Type 0 where
-  white lower upper digit quote other : Beginning
+  white : Beginning
+  lower : Beginning
+  upper : Beginning
+  digit : Beginning
+  quote : Beginning
+  other : Beginning
 
 abbrev pub beginning : ℕ → Beginning
 beginning b =
@@ -289,33 +292,33 @@ beginning b =
 
 -- what a text begins with, by its first character
 abbrev pub token_by : Beginning → ℕ → Option Token → List Placed → List ℕ → Cut
-token_by white at last open bs = passed
-token_by lower at last open bs = word at bs
-token_by upper at last open bs = module_word at bs
-token_by digit at last open bs = number bs
-token_by quote at last open bs = with_piece Quote (drop 1 bs)
-token_by other at last open bs = sign last open bs
+token_by white at last os bs = passed
+token_by lower at last os bs = word at bs
+token_by upper at last os bs = module_word at bs
+token_by digit at last os bs = number bs
+token_by quote at last os bs = with_piece Quote (drop 1 bs)
+token_by other at last os bs = sign last os bs
 
 abbrev pub first_token : Bool → ℕ → Option Token → List Placed → ℕ → List ℕ → Cut
-first_token true at last open b bs = behind_piece (b ∷ bs)
-first_token false at last open b bs = token_by (beginning b) at last open (b ∷ bs)
+first_token true at last os b bs = behind_piece (b ∷ bs)
+first_token false at last os b bs = token_by (beginning b) at last os (b ∷ bs)
 
 abbrev pub placed : ℕ → Option Token → List Placed
 placed at None = []
 placed at (Some t) = record { at = at; token = t } ∷ []
 
 abbrev pub opened_by : List Placed → List Placed → List Placed
-opened_by open [] = open
-opened_by open (p ∷ ps) = opened_by (opened open p) ps
+opened_by os [] = os
+opened_by os (p ∷ ps) = opened_by (opened os p) ps
 
 -- the tokens from a place on: what stands directly before it, what is open there, and how many bytes of the last token are still to come
 abbrev pub tokens_from : ℕ → Option Token → List Placed → ℕ → List ℕ → List Placed
-tokens_from at last open n [] = []
-tokens_from at last open (suc n) (b ∷ bs) = tokens_from (at + 1) last open n bs
-tokens_from at last open zero (b ∷ bs) = found ++ tokens_from (at + 1) c.token (opened_by open found) (c.size - 1) bs
-  where
-    c = first_token (in_text open) at last open b bs
-    found = placed at c.token
+tokens_from at last os n [] = []
+tokens_from at last os (suc n) (b ∷ bs) = tokens_from (at + 1) last os n bs
+tokens_from at last os zero (b ∷ bs) =
+  let c = first_token (in_text os) at last os b bs in
+  let found = placed at c.token in
+  found ++ tokens_from (at + 1) c.token (opened_by os found) (c.size - 1) bs
 
 -- the tokens of a text
 abbrev pub placed_tokens : List ℕ → List Placed
