@@ -2,3 +2,4 @@ pub mod ExamplesTokens
 pub mod Tables
 pub mod Opens
 pub mod Marked
+pub mod Examples

@@ -11,8 +11,9 @@ use Rattle.expr_core.specs.declared.token.Bracket.{Bracket}
 use Rattle.expr_core.specs.declared.token.Bracket.TheVariants.{Round, Square, Curly}
 use Rattle.expr_core.specs.declared.token.Token.{Token}
 use Rattle.expr_core.specs.declared.token.Token.TheVariants.{Dot, Operator, Pipe, Comma, If, OpeningRound, CallOpening, IndexOpening, Closing, PartOpening, PartClosing, QuoteEnd}
+use Rattle.expr_core.specs.Language.{Mark, mark}
 use Rattle.expr_core.specs.Functions.{earlier}
-use Rattle.expr_core.specs.Grammar.{binds, left_of, right_of, may_deny, Callee, plain, marked, callee_at, callee_name, Key, word_key, text_key, key_text, Style, bare, inside, Tree, number, text, atom, nil, boolean, assign, name, parens, before, between, field, index, list, tuple, map_of, call, piped, choice, choice_else, Trees, no_trees, tree, Parts, no_parts, part, Entries, no_entries, entry, holds, denies, callee_token, Grouped, AllGrouped, PartsGrouped, EntriesGrouped, Mark, mark, key_marks, marks, listed, more_listed, part_marks, entry_marks, more_entries, plain_parts, meaning, meanings, part_meanings, entry_meanings, unknown, unknown_item, unknown_part, unknown_entry, tokens}
+use Rattle.expr_core.specs.Grammar.{binds, left_of, right_of, may_deny, Callee, plain, marked, callee_at, callee_name, Key, word_key, text_key, key_text, Style, bare, inside, Tree, number, text, atom, nil, boolean, assign, name, parens, before, between, field, index, list, tuple, map_of, call, piped, choice, choice_else, Trees, no_trees, tree, Parts, no_parts, part, Entries, no_entries, entry, holds, denies, callee_token, Grouped, AllGrouped, PartsGrouped, EntriesGrouped, key_marks, marks, listed, more_listed, part_marks, entry_marks, more_entries, plain_parts, meaning, meanings, part_meanings, entry_meanings, unknown, unknown_item, unknown_part, unknown_entry}
 use Rattle.expr_core.specs.Machine.{Value, Opener, listing, tupling, calling, piping, Frames, operand, ahead, paren, indexed, items, putting, valued, test, inner_test, yes_of, no_of, State, want, have, want_assign, want_field, want_call, want_arguments, want_if, want_do, want_else, want_part, want_key, want_colon, want_quote, want_arrow, closed, finish, map_from, need, reduce, put_operator, put_pipe, put_closing, put_part, put_comma, step, nest, depth}
 use Rattle.expr_core.proofs.Tables.{le_left, left_5, binds_below, earlier_none, earlier_assoc}
 use Rattle.expr_core.proofs.Opens.{means, held, opened, behind, reduced, if_true, closes, stops}
@@ -260,27 +261,3 @@ mutual
          (subst (λ w. Goes (behind (opened t' (valued ps' u' (key_text k') ∷ fs))) (more_entries n es ++ c) (have (map_from (ps ++ (key_text k, meaning t) ∷ (key_text k', meaning t') ∷ entry_meanings es) w) fs)) (one_further u (unknown t) (earlier (unknown t') (unknown_entry es)))
           (subst (λ l. Goes (behind (opened t' (valued ps' u' (key_text k') ∷ fs))) (more_entries n es ++ c) (have (map_from l (earlier u' (earlier (unknown t') (unknown_entry es)))) fs)) (append_assoc ps ((key_text k, meaning t) ∷ []) ((key_text k', meaning t') ∷ entry_meanings es)) (goes_further es k' t' ps' u' fs gs.0 gs.1 gs.2))))))
 
-mark_eq : (m n : Mark) → m.token ≡ n.token → m.depth ≡ n.depth → m ≡ n
-mark_eq m n t d = ap (λ x. mark m.depth x) t ∙ ap (λ k. mark k n.token) d
-
-some_eq : (s u : State) → Some s ≡ Some u → s ≡ u
-some_eq s u e = cc
-
-head_eq : (x y : Token) (a b : List Token) → x ∷ a ≡ y ∷ b → (x ≡ y) × (a ≡ b)
-head_eq x y a b e = (cc, cc)
-
--- From one state, the same tokens have the same marks.
-pub same_marks : (a b : List Mark) (s u v : State) → Goes s a u → Goes s b v → map (λ m. m.token) a ≡ map (λ m. m.token) b → a ≡ b
-same_marks [] [] s u v h k e = refl
-same_marks [] (m ∷ b) s u v h k e = cc
-same_marks (m ∷ a) [] s u v h k e = cc
-same_marks (m ∷ a) (n ∷ b) s u v h k e =
-    let p = head_eq m.token n.token (map (λ m. m.token) a) (map (λ m. m.token) b) e in
-    let w = some_eq h.0 k.0 (sym h.1 ∙ (ap (step s) p.0 ∙ k.1)) in
-    let d : m.depth ≡ n.depth = sym h.2 ∙ (ap depth w ∙ k.2) in
-    let i = same_marks a b h.0 u v h.3 (subst (λ x. Goes x b v) (sym w) k.3) p.1 in
-    ap (λ x. x ∷ a) (mark_eq m n p.0 d) ∙ ap (λ l. n ∷ l) i
-
--- Two readings of one text have the same marks.
-pub one_reading : (t u : Tree) → Grouped t → Grouped u → tokens t ≡ tokens u → marks 0 t ≡ marks 0 u
-one_reading t u g h e = same_marks (marks 0 t) (marks 0 u) (want []) _ _ (goes t [] g (omega arith)) (goes u [] h (omega arith)) e

@@ -1,111 +1,27 @@
 -- What a text is answered with.
-use Rattle.std.specs.Prelude.{◌≡◌, ℕ, ◌+◌, ◌<◌, ◌≤◌, ◌⊎◌, List, [], ◌∷◌, ◌++◌, map, length, take, Option, Some, None}
-use Rattle.std.specs.List.{AllByRecursion, slice_get}
+use Rattle.std.specs.Prelude.{◌≡◌, ℕ, zero, suc, ◌⊎◌, List, [], ◌∷◌, map, length, Option, Some, None, Result, Ok, Err}
+use Rattle.std.specs.List.{slice_get}
 use Rattle.ast_core.specs.Syntax.{Expr}
 use Rattle.expr_core.specs.declared.fault.ExprKind.{ExprKind}
 use Rattle.expr_core.specs.declared.fault.ExprKind.TheVariants as kind
 use Rattle.expr_core.specs.declared.token.Token.{Token}
-use Rattle.expr_core.specs.declared.token.Token.TheVariants.{BadNumber}
 use Rattle.expr_core.specs.declared.token.Placed.{Placed}
 use Rattle.expr_core.specs.Tokens.{placed_tokens, left_open}
-use Rattle.expr_core.specs.Grammar.{Tree, Grouped, Mark, marks, meaning, unknown, Reads, Begins}
-use Rattle.expr_core.specs.Machine.{Outcome, read, unknown_at, stray, bad_number, too_deep, ended}
-
--- Answers to tokens.
-
-abbrev pub IsShallow : Mark → Type 0
-IsShallow m = m.depth ≤ 64
-
--- The tokens are read as this tree, nowhere more than 64 deep.
-pub record Shallow (ts : List Token) (t : Tree) : Type 0 where
-  pub reads : Reads ts t
-  pub shallow : AllByRecursion IsShallow (marks 0 t)
-
--- The tokens are those of this expression, and each call in it names a function.
-pub record Spells (ts : List Token) (e : Expr) : Type 0 where
-  pub tree : Tree
-  pub reads : Shallow ts tree
-  pub known : unknown tree ≡ None
-  pub means : meaning tree ≡ e
-
--- The tokens have a reading, in which the first call that names no function stands at this byte.
-pub record UnknownAt (ts : List Token) (at : ℕ) : Type 0 where
-  pub tree : Tree
-  pub reads : Shallow ts tree
-  pub is : unknown tree ≡ Some at
-
--- Some text that begins with these tokens has a reading, and they stand at most 64 deep in it.
-pub record Begun (ts : List Token) : Type 0 where
-  pub tree : Tree
-  pub front : List Mark
-  pub more : List Mark
-  pub grouped : Grouped tree
-  pub same : marks 0 tree ≡ front ++ more
-  pub spelled : map (λ m. m.token) front ≡ ts
-  pub shallow : AllByRecursion IsShallow front
-
--- Some text that begins with these tokens has a reading, and the last of them stands more than 64 deep in it.
-pub record IsDeep (ts : List Token) : Type 0 where
-  pub tree : Tree
-  pub front : List Mark
-  pub last : Mark
-  pub more : List Mark
-  pub grouped : Grouped tree
-  pub same : marks 0 tree ≡ (front ++ last ∷ []) ++ more
-  pub spelled : map (λ m. m.token) (front ++ last ∷ []) ≡ ts
-  pub deep : 64 < last.depth
-
--- No text that begins with the tokens through the n-th has a reading, but one that begins with those before it.
-pub record FaultAt (ts : List Token) (n : ℕ) : Type 0 where
-  pub within : n < length ts
-  pub begun : Begun (take n ts)
-  pub over : Begins (take (n + 1) ts) → ⊥
-
-pub record StrayAt (ts : List Token) (n : ℕ) : Type 0 where
-  pub fault : FaultAt ts n
-  pub other : slice_get ts n ≡ Some BadNumber → ⊥
-
-pub record BadNumberAt (ts : List Token) (n : ℕ) : Type 0 where
-  pub fault : FaultAt ts n
-  pub number : slice_get ts n ≡ Some BadNumber
-
-pub record DeepAt (ts : List Token) (n : ℕ) : Type 0 where
-  pub within : n < length ts
-  pub begun : Begun (take n ts)
-  pub deep : IsDeep (take (n + 1) ts)
-
--- The tokens begin a text that has a reading, but have none by themselves.
-pub record Ended (ts : List Token) : Type 0 where
-  pub begun : Begun ts
-  pub unread : (t : Tree) → Reads ts t → ⊥
-
-abbrev pub Answers : List Token → Outcome → Type 0
-Answers ts (read e) = Spells ts e
-Answers ts (unknown_at at) = UnknownAt ts at
-Answers ts (stray n) = StrayAt ts n
-Answers ts (bad_number n) = BadNumberAt ts n
-Answers ts (too_deep n) = DeepAt ts n
-Answers ts ended = Ended ts
-
--- Answers to texts.
+use Rattle.expr_core.specs.Language.{Language, Spells, StrayAt, BadNumberAt, DeepAt, Ended}
+use Rattle.expr_core.specs.Grammar.{Meant, meant, expressions}
+use Rattle.expr_core.specs.Outcome.{Outcome, done, stray, bad_number, too_deep, ended, outcome_of}
+use Rattle.expr_core.specs.Machine.{expr_reader}
 
 abbrev pub tokens_of : List ℕ → List Token
 tokens_of text = map (λ p. p.token) (placed_tokens text)
 
--- a text is written as this expression
-abbrev pub SpellsExpr : List ℕ → Expr → Type 0
-SpellsExpr text e = Spells (tokens_of text) e
+-- A text that has no reading.
 
 -- The n-th token of a text stands at this byte.
 pub record StandsAt (text : List ℕ) (n at : ℕ) : Type 0 where
   pub token : Placed
   pub is : slice_get (placed_tokens text) n ≡ Some token
   pub place : token.at ≡ at
-
--- the innermost opening that the text does not close stands at this byte
-abbrev pub OpenAt : List Placed → ℕ → Type 0
-OpenAt [] at = ⊥
-OpenAt (p ∷ ps) at = p.at ≡ at
 
 -- The token that this is said of stands at this byte.
 pub record AtToken (text : List ℕ) (Fault : List Token → ℕ → Type 0) (at : ℕ) : Type 0 where
@@ -114,20 +30,84 @@ pub record AtToken (text : List ℕ) (Fault : List Token → ℕ → Type 0) (at
   pub fault : Fault (tokens_of text) n
 
 -- More was needed where the text ends, and nothing is open.
-pub record StrayEnd (text : List ℕ) (at : ℕ) : Type 0 where
-  pub ends : Ended (tokens_of text)
+pub record StrayEnd (L : Language) (text : List ℕ) (at : ℕ) : Type 0 where
+  pub ends : Ended L (tokens_of text)
   pub none_open : left_open text ≡ []
   pub place : length text ≡ at
 
+-- the innermost opening stands at this byte
+abbrev pub OpenAt : List Placed → ℕ → Type 0
+OpenAt [] at = ⊥
+OpenAt (p ∷ ps) at = p.at ≡ at
+
 -- The text ends, and this opening is not closed.
-pub record OpenEnd (text : List ℕ) (at : ℕ) : Type 0 where
-  pub ends : Ended (tokens_of text)
+pub record OpenEnd (L : Language) (text : List ℕ) (at : ℕ) : Type 0 where
+  pub ends : Ended L (tokens_of text)
   pub opening : OpenAt (left_open text) at
 
--- a text is refused at this byte
+-- a text has no reading, or one that is too deep, and this is said at this byte
+abbrev pub Refuses : Language → List ℕ → ℕ → ExprKind → Type 0
+Refuses L text at kind.Stray = AtToken text (StrayAt L) at ⊎ StrayEnd L text at
+Refuses L text at kind.Unclosed = OpenEnd L text at
+Refuses L text at kind.BadNumber = AtToken text (BadNumberAt L) at
+Refuses L text at kind.TooDeep = AtToken text (DeepAt L) at
+Refuses L text at kind.UnknownFunction = ⊥
+
+-- Expressions.
+
+-- a text is written as this expression, in which each call names a function
+abbrev pub SpellsExpr : List ℕ → Expr → Type 0
+SpellsExpr text e = Spells expressions (tokens_of text) (meant e None)
+
+-- the first call of a text that names no function stands at this byte
+abbrev pub UnknownAt : List ℕ → ℕ → Type 0
+UnknownAt text at = (e : Expr) × Spells expressions (tokens_of text) (meant e (Some at))
+
 abbrev pub RefusesExpr : List ℕ → ℕ → ExprKind → Type 0
-RefusesExpr text at kind.Stray = AtToken text StrayAt at ⊎ StrayEnd text at
-RefusesExpr text at kind.Unclosed = OpenEnd text at
-RefusesExpr text at kind.BadNumber = AtToken text BadNumberAt at
-RefusesExpr text at kind.UnknownFunction = UnknownAt (tokens_of text) at
-RefusesExpr text at kind.TooDeep = AtToken text DeepAt at
+RefusesExpr text at kind.UnknownFunction = UnknownAt text at
+RefusesExpr text at kind.Stray = Refuses expressions text at kind.Stray
+RefusesExpr text at kind.Unclosed = Refuses expressions text at kind.Unclosed
+RefusesExpr text at kind.BadNumber = Refuses expressions text at kind.BadNumber
+RefusesExpr text at kind.TooDeep = Refuses expressions text at kind.TooDeep
+
+-- Why a text is refused, and where.
+pub record Refusal : Type 0 where
+  pub place : ℕ
+  pub kind : ExprKind
+
+abbrev pub refused : {A : Type 0} → ℕ → ExprKind → Result A Refusal
+refused at k = Err (record { place = at; kind = k })
+
+-- an answer is the right one
+abbrev pub AnswersExpr : List ℕ → Result Expr Refusal → Type 0
+AnswersExpr text (Ok e) = SpellsExpr text e
+AnswersExpr text (Err r) = RefusesExpr text r.place r.kind
+
+-- The answer that the reader gives.
+
+-- the byte of the n-th token; there is one
+abbrev pub byte_of : List Placed → ℕ → ℕ
+byte_of [] n = 0
+byte_of (p ∷ ps) zero = p.at
+byte_of (p ∷ ps) (suc n) = byte_of ps n
+
+-- more was needed where a text of this length ends
+abbrev pub at_text_end : {A : Type 0} → List Placed → ℕ → Result A Refusal
+at_text_end [] size = refused size kind.Stray
+at_text_end (p ∷ ps) size = refused p.at kind.Unclosed
+
+-- the answer of a text by what becomes of its tokens
+abbrev pub answer_by : {A B : Type 0} → (A → Result B Refusal) → List ℕ → Outcome A → Result B Refusal
+answer_by f text (done m) = f m
+answer_by f text (stray n) = refused (byte_of (placed_tokens text) n) kind.Stray
+answer_by f text (bad_number n) = refused (byte_of (placed_tokens text) n) kind.BadNumber
+answer_by f text (too_deep n) = refused (byte_of (placed_tokens text) n) kind.TooDeep
+answer_by f text ended = at_text_end (left_open text) (length text)
+
+abbrev pub known_or : Expr → Option ℕ → Result Expr Refusal
+known_or e None = Ok e
+known_or e (Some at) = refused at kind.UnknownFunction
+
+-- the expression that a text is, or its refusal
+abbrev pub expr_of : List ℕ → Result Expr Refusal
+expr_of text = answer_by (λ m. known_or m.expr m.unknown) text (outcome_of expr_reader (tokens_of text))

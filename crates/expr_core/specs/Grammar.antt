@@ -1,5 +1,5 @@
 -- Which tokens an expression is written with: a tree says where parentheses stand.
-use Rattle.std.specs.Prelude.{◌≡◌, ℕ, ℤ, ◌+◌, ◌≤◌, List, [], ◌∷◌, ◌++◌, map, Bool, true, false, nat_eq, if◌then◌else◌, Option, Some, None}
+use Rattle.std.specs.Prelude.{◌≡◌, ℕ, ℤ, ◌+◌, ◌≤◌, List, [], ◌∷◌, ◌++◌, Bool, true, false, nat_eq, if◌then◌else◌, Option, Some, None}
 use Rattle.ast_core.specs.declared.operators.UnaryOp.{UnaryOp}
 use Rattle.ast_core.specs.declared.operators.UnaryOp.TheVariants as un
 use Rattle.ast_core.specs.declared.operators.BinaryOp.{BinaryOp}
@@ -10,6 +10,7 @@ use Rattle.ast_core.specs.ExprView.{Part, plain_part, expr_part, exprs_of, pairs
 use Rattle.expr_core.specs.declared.token.Bracket.TheVariants.{Round, Square, Curly}
 use Rattle.expr_core.specs.declared.token.Token.{Token}
 use Rattle.expr_core.specs.declared.token.Token.TheVariants.{Number, Word, Function, Atom, Nil, Boolean, At, Dot, Operator, Bang, NotWord, Pipe, Comma, Colon, Arrow, If, DoColon, ElseColon, OpeningRound, CallOpening, OpeningSquare, IndexOpening, OpeningCurly, OpeningMap, Closing, Quote, PartOpening, PartClosing, QuoteEnd}
+use Rattle.expr_core.specs.Language.{Mark, mark, Language}
 use Rattle.expr_core.specs.Functions.{call_with, unknown_call, earlier}
 
 -- How tightly an operator binds: 5 is a pipe, 10 an operator before its operand, 11 all else but an `if` without parentheses, which is 0.
@@ -200,14 +201,6 @@ abbrev mutual
   EntriesGrouped no_entries = Unit {0}
   EntriesGrouped (entry k t es) = (1 ≤ holds t) × Grouped t × EntriesGrouped es
 
--- a token, and how deep in brackets, parts of texts, calls, `if` and operators before their operands it stands
-pub record Mark : Type 0 where
-  pub token : Token
-  pub depth : ℕ
-
-abbrev pub mark : ℕ → Token → Mark
-mark n t = record { token = t; depth = n }
-
 abbrev pub prefix_token : UnaryOp → Token
 prefix_token un.Minus = Operator op.Minus
 prefix_token un.Bang = Bang
@@ -351,14 +344,14 @@ abbrev mutual
   unknown_entry no_entries = None
   unknown_entry (entry k t es) = earlier (unknown t) (unknown_entry es)
 
-abbrev pub tokens : Tree → List Token
-tokens t = map (λ m. m.token) (marks 0 t)
+-- What a tree means, and the byte of its first call that names no function.
+pub record Meant : Type 0 where
+  pub expr : Expr
+  pub unknown : Option ℕ
 
--- A text of these tokens is read as this tree.
-pub record Reads (ts : List Token) (t : Tree) : Type 0 where
-  pub grouped : Grouped t
-  pub spelled : tokens t ≡ ts
+abbrev pub meant : Expr → Option ℕ → Meant
+meant e u = record { expr = e; unknown = u }
 
--- Some text that begins with these tokens has a reading.
-abbrev pub Begins : List Token → Type 0
-Begins ts = (more : List Token) × (t : Tree) × Reads (ts ++ more) t
+-- The language of expressions. The depth of a token counts brackets, parts of texts, calls, `if` and operators before their operands.
+abbrev pub expressions : Language
+expressions = record { Tree = Tree; Lawful = Grouped; marks = marks 0; Meaning = Meant; meaning = λ t. meant (meaning t) (unknown t) }

@@ -1,5 +1,5 @@
 -- The reader of expressions, token by token.
-use Rattle.std.specs.Prelude.{option_and_then, ℕ, ◌+◌, List, [], ◌∷◌, ◌++◌, pos, Bool, true, false, ◌&&◌, nat_le, if◌then◌else◌, Option, Some, None}
+use Rattle.std.specs.Prelude.{ℕ, ◌+◌, List, [], ◌∷◌, ◌++◌, pos, Bool, true, false, ◌&&◌, nat_le, if◌then◌else◌, Option, Some, None}
 use Rattle.ast_core.specs.declared.operators.UnaryOp.{UnaryOp}
 use Rattle.ast_core.specs.declared.operators.UnaryOp.TheVariants as un
 use Rattle.ast_core.specs.declared.operators.BinaryOp.{BinaryOp}
@@ -12,17 +12,10 @@ use Rattle.expr_core.specs.declared.token.Bracket.TheVariants.{Round, Square, Cu
 use Rattle.expr_core.specs.declared.token.Token.{Token}
 use Rattle.expr_core.specs.declared.token.Token.TheVariants.{Number, BadNumber, Word, Function, Atom, Nil, Boolean, At, Dot, Operator, Bang, NotWord, Pipe, Comma, Colon, Arrow, If, DoColon, ElseColon, OpeningRound, CallOpening, OpeningSquare, IndexOpening, OpeningCurly, OpeningMap, Closing, Quote, PartOpening, PartClosing, QuoteEnd, Foreign}
 use Rattle.expr_core.specs.Functions.{call_with, unknown_call, earlier}
-use Rattle.expr_core.specs.Grammar.{binds, left_of, right_of, is_denial, may_deny, Style, bare, inside, style_holds, deeper, plain_parts}
+use Rattle.expr_core.specs.Outcome.{Reader}
+use Rattle.expr_core.specs.Grammar.{Meant, meant, binds, left_of, right_of, is_denial, may_deny, Style, bare, inside, style_holds, deeper, plain_parts}
 
--- An expression that was read, and the byte of its first call that names no function.
-pub record Meant : Type 0 where
-  pub expr : Expr
-  pub unknown : Option ℕ
-
-abbrev pub meant : Expr → Option ℕ → Meant
-meant e u = record { expr = e; unknown = u }
-
--- The same with how tightly it is held together, whether it begins with a denial, and its name where it may be that of a call.
+-- What was read, how tightly it is held together, whether it begins with a denial, and its name where it may be that of a call.
 pub record Value : Type 0 where
   pub meant : Meant
   pub holds : ℕ
@@ -273,10 +266,6 @@ step (want_quote ps u k fs) t = None
 step (want_arrow ps u k fs) Arrow = Some (want (valued ps u k ∷ fs))
 step (want_arrow ps u k fs) t = None
 
-abbrev pub run : State → List Token → Option State
-run s [] = Some s
-run s (t ∷ ts) = option_and_then (λ s'. run s' ts) (step s t)
-
 abbrev pub ends : Value × Frames → Option Value
 ends (v, []) = Some v
 ends (v, f ∷ fs) = None
@@ -285,6 +274,10 @@ ends (v, f ∷ fs) = None
 abbrev pub finished : State → Option Value
 finished (have v fs) = ends (reduce 0 v fs)
 finished s = None
+
+abbrev pub meant_by : Option Value → Option Meant
+meant_by None = None
+meant_by (Some v) = Some v.meant
 
 -- how deep it stands
 abbrev pub nest : Frames → ℕ
@@ -318,32 +311,5 @@ depth (want_colon ps u k fs) = nest fs + 1
 depth (want_quote ps u k fs) = nest fs + 1
 depth (want_arrow ps u k fs) = nest fs + 1
 
--- What becomes of a text: its expression, the byte of an unknown call, or the number of the token that is at fault.
-pub data Outcome : Type 0 where
-  read : Expr → Outcome
-  unknown_at : ℕ → Outcome
-  stray : ℕ → Outcome
-  bad_number : ℕ → Outcome
-  too_deep : ℕ → Outcome
-  ended : Outcome
-
-abbrev pub by_meant : Expr → Option ℕ → Outcome
-by_meant e None = read e
-by_meant e (Some at) = unknown_at at
-
-abbrev pub at_end : Option Value → Outcome
-at_end (Some v) = by_meant v.meant.expr v.meant.unknown
-at_end None = ended
-
-abbrev pub at_fault : Token → ℕ → Outcome
-at_fault BadNumber n = bad_number n
-at_fault t n = stray n
-
-abbrev pub on_step : (State → Outcome) → Token → ℕ → Option State → Outcome
-on_step go t n None = at_fault t n
-on_step go t n (Some s) = if nat_le (depth s) 64 then go s else too_deep n
-
--- what is read from the n-th token on
-abbrev pub outcome : List Token → ℕ → State → Outcome
-outcome [] n s = at_end (finished s)
-outcome (t ∷ ts) n s = on_step (outcome ts (n + 1)) t n (step s t)
+abbrev pub expr_reader : Reader Meant
+expr_reader = record { State = State; start = want []; step = step; depth = depth; finished = λ s. meant_by (finished s) }
