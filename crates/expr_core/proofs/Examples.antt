@@ -1,5 +1,5 @@
 -- What becomes of some texts.
-use Rattle.std.proofs.Common.{◌≡◌, ℕ, pos, List, [], ◌∷◌, true, false, codes, Ok, refl}
+use Rattle.std.proofs.Common.{◌≡◌, ℕ, pos, List, [], ◌∷◌, true, codes, Ok, refl}
 use Rattle.ast_core.specs.declared.operators.UnaryOp.TheVariants as un
 use Rattle.ast_core.specs.declared.operators.BinaryOp.TheVariants as op
 use Rattle.ast_core.specs.declared.operators.Function.TheVariants as fn

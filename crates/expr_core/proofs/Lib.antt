@@ -3,3 +3,4 @@ pub mod Tables
 pub mod Opens
 pub mod Marked
 pub mod Examples
+pub mod ExamplesPatterns

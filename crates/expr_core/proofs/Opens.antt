@@ -1,10 +1,10 @@
 -- What a tree leaves open behind its last token, and how it is put together again.
-use Rattle.std.proofs.Common.{◌≡◌, ℕ, ◌+◌, ◌<◌, ◌≤◌, List, [], ◌∷◌, Bool, true, false, Option, Some, None, refl, sym, ap, ◌∙◌, subst, arith}
+use Rattle.std.proofs.Common.{◌≡◌, ℕ, ◌<◌, ◌≤◌, List, [], ◌∷◌, Bool, true, false, Option, Some, None, refl, ◌∙◌, arith}
 use Rattle.std.specs.Prelude.{nat_le, if◌then◌else◌}
 use Rattle.std.proofs.lemmas.Bool.{le-leb}
-use Rattle.std.proofs.lemmas.Bool.Decides.{leb_tells, nat_tests}
-use Rattle.expr_core.specs.Grammar.{Meant, meant, binds, left_of, right_of, Style, bare, inside, Tree, number, text, atom, nil, boolean, assign, name, parens, before, between, field, index, list, tuple, map_of, call, piped, choice, choice_else, holds, denies, Grouped, meaning, unknown}
-use Rattle.expr_core.specs.Machine.{Value, Frames, operand, ahead, paren, indexed, items, putting, valued, test, inner_test, yes_of, no_of, State, have, both, alone, chosen, chosen_else, need, reduce}
+use Rattle.std.proofs.lemmas.Bool.Decides.{nat_tests}
+use Rattle.expr_core.specs.Grammar.{Meant, meant, binds, left_of, bare, inside, Tree, number, text, atom, nil, boolean, assign, name, parens, before, between, field, index, list, tuple, map_of, call, piped, choice, choice_else, holds, denies, Grouped, meaning, unknown}
+use Rattle.expr_core.specs.Machine.{Value, Frames, operand, ahead, paren, indexed, items, putting, valued, test, inner_test, yes_of, no_of, State, have, both, chosen, chosen_else, need, reduce}
 use Rattle.expr_core.proofs.Tables.{le_left, le_right, stays}
 
 abbrev pub callee_of : Tree → Option (ℕ × List ℕ)

@@ -1,16 +1,18 @@
 -- What a text is answered with.
 use Rattle.std.specs.Prelude.{◌≡◌, ℕ, zero, suc, ◌⊎◌, List, [], ◌∷◌, map, length, Option, Some, None, Result, Ok, Err}
 use Rattle.std.specs.List.{slice_get}
-use Rattle.ast_core.specs.Syntax.{Expr}
+use Rattle.ast_core.specs.Syntax.{Expr, Pattern}
 use Rattle.expr_core.specs.declared.fault.ExprKind.{ExprKind}
 use Rattle.expr_core.specs.declared.fault.ExprKind.TheVariants as kind
 use Rattle.expr_core.specs.declared.token.Token.{Token}
 use Rattle.expr_core.specs.declared.token.Placed.{Placed}
 use Rattle.expr_core.specs.Tokens.{placed_tokens, left_open}
 use Rattle.expr_core.specs.Language.{Language, Spells, StrayAt, BadNumberAt, DeepAt, Ended}
-use Rattle.expr_core.specs.Grammar.{Meant, meant, expressions}
+use Rattle.expr_core.specs.Grammar.{meant, expressions}
 use Rattle.expr_core.specs.Outcome.{Outcome, done, stray, bad_number, too_deep, ended, outcome_of}
 use Rattle.expr_core.specs.Machine.{expr_reader}
+use Rattle.expr_core.specs.PatternGrammar.{patterns}
+use Rattle.expr_core.specs.PatternMachine.{pattern_reader}
 
 abbrev pub tokens_of : List ℕ → List Token
 tokens_of text = map (λ p. p.token) (placed_tokens text)
@@ -83,7 +85,13 @@ abbrev pub AnswersExpr : List ℕ → Result Expr Refusal → Type 0
 AnswersExpr text (Ok e) = SpellsExpr text e
 AnswersExpr text (Err r) = RefusesExpr text r.place r.kind
 
--- The answer that the reader gives.
+-- Patterns.
+
+abbrev pub AnswersPattern : List ℕ → Result Pattern Refusal → Type 0
+AnswersPattern text (Ok p) = Spells patterns (tokens_of text) p
+AnswersPattern text (Err r) = Refuses patterns text r.place r.kind
+
+-- The answers that the readers give.
 
 -- the byte of the n-th token; there is one
 abbrev pub byte_of : List Placed → ℕ → ℕ
@@ -111,3 +119,7 @@ known_or e (Some at) = refused at kind.UnknownFunction
 -- the expression that a text is, or its refusal
 abbrev pub expr_of : List ℕ → Result Expr Refusal
 expr_of text = answer_by (λ m. known_or m.expr m.unknown) text (outcome_of expr_reader (tokens_of text))
+
+-- the pattern that a text is, or its refusal
+abbrev pub pattern_of : List ℕ → Result Pattern Refusal
+pattern_of text = answer_by (λ p. Ok p) text (outcome_of pattern_reader (tokens_of text))

@@ -17,10 +17,10 @@ row name takes function = record { name = name; takes = takes; function = functi
 
 abbrev pub functions : List Signature
 functions =
-  row (codes "length") 1 f.Length ∷ row (codes "is_nil") 1 f.IsNil ∷ row (codes "to_string") 1 f.ToString
-  ∷ row (codes "div") 2 f.Div ∷ row (codes "rem") 2 f.Rem ∷ row (codes "abs") 1 f.Abs ∷ row (codes "max") 2 f.Max ∷ row (codes "min") 2 f.Min
-  ∷ row (codes "Enum.count") 1 f.Count ∷ row (codes "Enum.empty?") 1 f.IsEmpty ∷ row (codes "Enum.join") 1 f.Join ∷ row (codes "Enum.join") 2 f.Join
-  ∷ row (codes "Enum.reverse") 1 f.Reverse ∷ row (codes "Map.get") 2 f.Get ∷ row (codes "Map.get") 3 f.Get ∷ row (codes "Map.has_key?") 2 f.HasKey ∷ []
+    row (codes "length") 1 f.Length ∷ row (codes "is_nil") 1 f.IsNil ∷ row (codes "to_string") 1 f.ToString
+    ∷ row (codes "div") 2 f.Div ∷ row (codes "rem") 2 f.Rem ∷ row (codes "abs") 1 f.Abs ∷ row (codes "max") 2 f.Max ∷ row (codes "min") 2 f.Min
+    ∷ row (codes "Enum.count") 1 f.Count ∷ row (codes "Enum.empty?") 1 f.IsEmpty ∷ row (codes "Enum.join") 1 f.Join ∷ row (codes "Enum.join") 2 f.Join
+    ∷ row (codes "Enum.reverse") 1 f.Reverse ∷ row (codes "Map.get") 2 f.Get ∷ row (codes "Map.get") 3 f.Get ∷ row (codes "Map.has_key?") 2 f.HasKey ∷ []
 
 abbrev pub function_in : List Signature → List ℕ → ℕ → Option Function
 function_in [] name n = None

@@ -1,5 +1,5 @@
 -- Which tokens an expression is written with: a tree says where parentheses stand.
-use Rattle.std.specs.Prelude.{◌≡◌, ℕ, ℤ, ◌+◌, ◌≤◌, List, [], ◌∷◌, ◌++◌, Bool, true, false, nat_eq, if◌then◌else◌, Option, Some, None}
+use Rattle.std.specs.Prelude.{◌≡◌, ℕ, ℤ, ◌+◌, ◌≤◌, List, [], ◌∷◌, ◌++◌, Bool, true, false, nat_eq, if◌then◌else◌, Option, None}
 use Rattle.ast_core.specs.declared.operators.UnaryOp.{UnaryOp}
 use Rattle.ast_core.specs.declared.operators.UnaryOp.TheVariants as un
 use Rattle.ast_core.specs.declared.operators.BinaryOp.{BinaryOp}

@@ -1,5 +1,5 @@
 -- Languages of tokens, and what a list of tokens is answered with.
-use Rattle.std.specs.Prelude.{◌≡◌, ℕ, ◌+◌, ◌<◌, ◌≤◌, List, [], ◌∷◌, ◌++◌, map, length, take, Option, Some}
+use Rattle.std.specs.Prelude.{◌≡◌, ℕ, ◌+◌, ◌<◌, ◌≤◌, List, [], ◌∷◌, ◌++◌, map, length, take, Some}
 use Rattle.std.specs.List.{AllByRecursion, slice_get}
 use Rattle.expr_core.specs.declared.token.Token.{Token}
 use Rattle.expr_core.specs.declared.token.Token.TheVariants.{BadNumber}

@@ -4,4 +4,6 @@ pub mod Outcome
 pub mod Functions
 pub mod Grammar
 pub mod Machine
+pub mod PatternGrammar
+pub mod PatternMachine
 pub mod Answers

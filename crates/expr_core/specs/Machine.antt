@@ -1,16 +1,16 @@
 -- The reader of expressions, token by token.
-use Rattle.std.specs.Prelude.{ℕ, ◌+◌, List, [], ◌∷◌, ◌++◌, pos, Bool, true, false, ◌&&◌, nat_le, if◌then◌else◌, Option, Some, None}
+use Rattle.std.specs.Prelude.{ℕ, ◌+◌, List, [], ◌∷◌, ◌++◌, Bool, false, ◌&&◌, nat_le, if◌then◌else◌, Option, Some, None}
 use Rattle.ast_core.specs.declared.operators.UnaryOp.{UnaryOp}
 use Rattle.ast_core.specs.declared.operators.UnaryOp.TheVariants as un
 use Rattle.ast_core.specs.declared.operators.BinaryOp.{BinaryOp}
 use Rattle.ast_core.specs.declared.operators.BinaryOp.TheVariants as op
 use Rattle.ast_core.specs.Syntax.{Expr}
 use Rattle.ast_core.specs.Syntax as x
-use Rattle.ast_core.specs.ExprView.{Part, plain_part, expr_part, exprs_of, pairs_of, parts_of}
+use Rattle.ast_core.specs.ExprView.{Part, expr_part, exprs_of, pairs_of, parts_of}
 use Rattle.expr_core.specs.declared.token.Bracket.{Bracket}
 use Rattle.expr_core.specs.declared.token.Bracket.TheVariants.{Round, Square, Curly}
 use Rattle.expr_core.specs.declared.token.Token.{Token}
-use Rattle.expr_core.specs.declared.token.Token.TheVariants.{Number, BadNumber, Word, Function, Atom, Nil, Boolean, At, Dot, Operator, Bang, NotWord, Pipe, Comma, Colon, Arrow, If, DoColon, ElseColon, OpeningRound, CallOpening, OpeningSquare, IndexOpening, OpeningCurly, OpeningMap, Closing, Quote, PartOpening, PartClosing, QuoteEnd, Foreign}
+use Rattle.expr_core.specs.declared.token.Token.TheVariants.{Number, Word, Function, Atom, Nil, Boolean, At, Dot, Operator, Bang, NotWord, Pipe, Comma, Colon, Arrow, If, DoColon, ElseColon, OpeningRound, CallOpening, OpeningSquare, IndexOpening, OpeningCurly, OpeningMap, Closing, Quote, PartOpening, PartClosing, QuoteEnd}
 use Rattle.expr_core.specs.Functions.{call_with, unknown_call, earlier}
 use Rattle.expr_core.specs.Outcome.{Reader}
 use Rattle.expr_core.specs.Grammar.{Meant, meant, binds, left_of, right_of, is_denial, may_deny, Style, bare, inside, style_holds, deeper, plain_parts}
@@ -97,7 +97,9 @@ finish tupling es u = closed (x.tuple_of (exprs_of es)) u
 finish (calling at name) es u = closed (call_with name es) (earlier (unknown_call at name es) u)
 finish (piping l at name) es u = record {
   meant = meant (call_with name (l.meant.expr ∷ es)) (earlier l.meant.unknown (earlier (unknown_call at name (l.meant.expr ∷ es)) u));
-  holds = 5; denies = l.denies; callee = None
+  holds = 5;
+  denies = l.denies;
+  callee = None;
 }
 
 abbrev pub map_from : List (List ℕ × Expr) → Option ℕ → Value

@@ -1,5 +1,5 @@
 -- The tokens of a text: from left to right, each as long as it can be.
-use Rattle.std.specs.Prelude.{ℕ, ◌+◌, ◌-◌, ◌*◌, ◌≤◌, zero, suc, pos, List, [], ◌∷◌, ◌++◌, length, drop, take_while, codes, Bool, true, false, not, ◌&&◌, ◌||◌, nat_eq, nat_le, Option, Some, None, if◌then◌else◌}
+use Rattle.std.specs.Prelude.{ℕ, ◌+◌, ◌-◌, ◌*◌, zero, suc, pos, List, [], ◌∷◌, ◌++◌, length, drop, take_while, codes, Bool, true, false, not, ◌&&◌, ◌||◌, nat_eq, nat_le, Option, Some, None, if◌then◌else◌}
 use Rattle.std.specs.List.{starts_with}
 use Rattle.std.specs.Char.{is_ascii_digit, is_ascii_uppercase, is_ascii_lowercase, is_ascii_alphanumeric}
 use Rattle.std.specs.Str.{bytes_eq}
@@ -39,20 +39,20 @@ Row = List ℕ × Token
 -- the words that are no names; three of them stand in blocks alone
 abbrev pub reserved : List Row
 reserved =
-  (codes "and", Operator op.And) ∷ (codes "or", Operator op.Or) ∷ (codes "in", Operator op.Member) ∷ (codes "not", NotWord)
-  ∷ (codes "nil", Nil) ∷ (codes "true", Boolean true) ∷ (codes "false", Boolean false) ∷ (codes "if", If)
-  ∷ (codes "do", Foreign) ∷ (codes "else", Foreign) ∷ (codes "end", Foreign) ∷ []
+    (codes "and", Operator op.And) ∷ (codes "or", Operator op.Or) ∷ (codes "in", Operator op.Member) ∷ (codes "not", NotWord)
+    ∷ (codes "nil", Nil) ∷ (codes "true", Boolean true) ∷ (codes "false", Boolean false) ∷ (codes "if", If)
+    ∷ (codes "do", Foreign) ∷ (codes "else", Foreign) ∷ (codes "end", Foreign) ∷ []
 
 -- the signs, the longer before the shorter
 abbrev pub signs : List Row
 signs =
-  (codes "||", Operator op.OrElse) ∷ (codes "&&", Operator op.AndAlso) ∷ (codes "==", Operator op.Equal) ∷ (codes "!=", Operator op.Unequal)
-  ∷ (codes "<=", Operator op.AtMost) ∷ (codes ">=", Operator op.AtLeast) ∷ (codes "++", Operator op.Append) ∷ (codes "<>", Operator op.Concat)
-  ∷ (codes "|>", Pipe) ∷ (codes "=>", Arrow) ∷ (codes "%{", OpeningMap)
-  ∷ (codes "<", Operator op.Less) ∷ (codes ">", Operator op.Greater) ∷ (codes "+", Operator op.Plus) ∷ (codes "-", Operator op.Minus) ∷ (codes "*", Operator op.Times)
-  ∷ (codes "!", Bang) ∷ (codes "@", At) ∷ (codes ".", Dot) ∷ (codes ",", Comma) ∷ (codes ":", Colon)
-  ∷ (codes "(", OpeningRound) ∷ (codes "[", OpeningSquare) ∷ (codes "{", OpeningCurly)
-  ∷ (codes ")", Closing Round) ∷ (codes "]", Closing Square) ∷ (codes "}", Closing Curly) ∷ []
+    (codes "||", Operator op.OrElse) ∷ (codes "&&", Operator op.AndAlso) ∷ (codes "==", Operator op.Equal) ∷ (codes "!=", Operator op.Unequal)
+    ∷ (codes "<=", Operator op.AtMost) ∷ (codes ">=", Operator op.AtLeast) ∷ (codes "++", Operator op.Append) ∷ (codes "<>", Operator op.Concat)
+    ∷ (codes "|>", Pipe) ∷ (codes "=>", Arrow) ∷ (codes "%{", OpeningMap)
+    ∷ (codes "<", Operator op.Less) ∷ (codes ">", Operator op.Greater) ∷ (codes "+", Operator op.Plus) ∷ (codes "-", Operator op.Minus) ∷ (codes "*", Operator op.Times)
+    ∷ (codes "!", Bang) ∷ (codes "@", At) ∷ (codes ".", Dot) ∷ (codes ",", Comma) ∷ (codes ":", Colon)
+    ∷ (codes "(", OpeningRound) ∷ (codes "[", OpeningSquare) ∷ (codes "{", OpeningCurly)
+    ∷ (codes ")", Closing Round) ∷ (codes "]", Closing Square) ∷ (codes "}", Closing Curly) ∷ []
 
 -- the first row with this property
 abbrev pub row_where : (List ℕ → Bool) → List Row → Option Row
@@ -94,9 +94,9 @@ word_or_function at name (m ∷ ms) = cut (Function at (name ++ m ∷ ms)) (leng
 -- `do:` and `else:` are longer than the words before the colon
 abbrev pub reserved_word : Token → List ℕ → List ℕ → Cut
 reserved_word t name rest =
-  if bytes_eq name (codes "do") && begins (codes ":") rest then cut DoColon 3
-  else if bytes_eq name (codes "else") && begins (codes ":") rest then cut ElseColon 5
-  else cut t (length name)
+    if bytes_eq name (codes "do") && begins (codes ":") rest then cut DoColon 3
+    else if bytes_eq name (codes "else") && begins (codes ":") rest then cut ElseColon 5
+    else cut t (length name)
 
 abbrev pub word_by : Option Row → ℕ → List ℕ → List ℕ → Cut
 word_by None at name rest = word_or_function at name (call_mark rest)
@@ -113,12 +113,12 @@ module_of (b ∷ bs) = if in_name b || (nat_eq b 46 && first_is is_ascii_upperca
 -- a module, with a dot and a name behind it the name of a call
 abbrev pub module_word : ℕ → List ℕ → Cut
 module_word at bs =
-  let modules = module_of bs in
-  let rest = drop (length modules) bs in
-  let behind = drop 1 rest in
-  let called = name_of behind in
-  let full = modules ++ codes "." ++ called ++ call_mark (drop (length called) behind) in
-  if begins (codes ".") rest && (first_is begins_name behind && not (is_reserved called)) then cut (Function at full) (length full) else cut Foreign (length modules)
+    let modules = module_of bs in
+    let rest = drop (length modules) bs in
+    let behind = drop 1 rest in
+    let called = name_of behind in
+    let full = modules ++ codes "." ++ called ++ call_mark (drop (length called) behind) in
+    if begins (codes ".") rest && (first_is begins_name behind && not (is_reserved called)) then cut (Function at full) (length full) else cut Foreign (length modules)
 
 -- Numbers.
 
@@ -134,9 +134,9 @@ value_of n (b ∷ bs) = value_of (if is_ascii_digit b then n * 10 + (b - 48) els
 
 abbrev pub number : List ℕ → Cut
 number bs =
-  let digits = digits_of bs in
-  let n = value_of 0 digits in
-  cut (if nat_le n 9223372036854775807 then Number (pos n) else BadNumber) (length digits)
+    let digits = digits_of bs in
+    let n = value_of 0 digits in
+    cut (if nat_le n 9223372036854775807 then Number (pos n) else BadNumber) (length digits)
 
 -- Atoms.
 
@@ -147,11 +147,11 @@ atom_mark rest = if begins (codes "?") rest then codes "?" else if begins (codes
 -- a colon before a letter or `_` begins an atom or nothing
 abbrev pub colon : List ℕ → Cut
 colon bs =
-  let name = name_of bs in
-  let full = name ++ atom_mark (drop (length name) bs) in
-  if first_is is_ascii_uppercase bs || is_reserved name then cut Foreign 1
-  else if first_is begins_name bs then cut (Atom full) (length full + 1)
-  else cut Colon 1
+    let name = name_of bs in
+    let full = name ++ atom_mark (drop (length name) bs) in
+    if first_is is_ascii_uppercase bs || is_reserved name then cut Foreign 1
+    else if first_is begins_name bs then cut (Atom full) (length full + 1)
+    else cut Colon 1
 
 -- Texts.
 
@@ -191,8 +191,8 @@ abbrev pub piece_from : Bool → List ℕ → Piece
 piece_from slash [] = no_piece
 piece_from true (c ∷ bs) = with_text (character (escaped c)) (piece_from false bs)
 piece_from false (b ∷ bs) =
-  let rest = piece_from (nat_eq b 92) bs in
-  if ends_piece (b ∷ bs) then no_piece else with_text (if nat_eq b 92 then [] else b ∷ []) rest
+    let rest = piece_from (nat_eq b 92) bs in
+    if ends_piece (b ∷ bs) then no_piece else with_text (if nat_eq b 92 then [] else b ∷ []) rest
 
 abbrev pub with_piece : (List ℕ → Token) → List ℕ → Cut
 with_piece token bs = let p = piece_from false bs in cut (token p.text) (p.size + 1)
@@ -223,6 +223,7 @@ opened opens p = by_token p.token opens
     behind : List Placed → List Placed
     behind [] = []
     behind (o ∷ os) = os
+
     by_token : Token → List Placed → List Placed
     by_token OpeningRound os = p ∷ os
     by_token CallOpening os = p ∷ os
@@ -274,8 +275,8 @@ sign last os bs = sign_by (row_where (λ s. begins s bs) signs) last os bs
 -- what stands behind a piece of a text
 abbrev pub behind_piece : List ℕ → Cut
 behind_piece bs =
-  if begins (codes "\"") bs then cut QuoteEnd 1 else if begins (codes "#{") bs then cut PartOpening 2
-  else if begins (codes "\\") bs && nat_eq (length bs) 1 then passed else cut Foreign 1
+    if begins (codes "\"") bs then cut QuoteEnd 1 else if begins (codes "#{") bs then cut PartOpening 2
+    else if begins (codes "\\") bs && nat_eq (length bs) 1 then passed else cut Foreign 1
 
 pub data Beginning : Type 0 where
   white : Beginning
@@ -287,8 +288,8 @@ pub data Beginning : Type 0 where
 
 abbrev pub beginning : ℕ → Beginning
 beginning b =
-  if is_white b then white else if begins_name b then lower else if is_ascii_uppercase b then upper
-  else if is_ascii_digit b then digit else if nat_eq b 34 then quote else other
+    if is_white b then white else if begins_name b then lower else if is_ascii_uppercase b then upper
+    else if is_ascii_digit b then digit else if nat_eq b 34 then quote else other
 
 -- what a text begins with, by its first character
 abbrev pub token_by : Beginning → ℕ → Option Token → List Placed → List ℕ → Cut
@@ -316,9 +317,9 @@ abbrev pub tokens_from : ℕ → Option Token → List Placed → ℕ → List �
 tokens_from at last os n [] = []
 tokens_from at last os (suc n) (b ∷ bs) = tokens_from (at + 1) last os n bs
 tokens_from at last os zero (b ∷ bs) =
-  let c = first_token (in_text os) at last os b bs in
-  let found = placed at c.token in
-  found ++ tokens_from (at + 1) c.token (opened_by os found) (c.size - 1) bs
+    let c = first_token (in_text os) at last os b bs in
+    let found = placed at c.token in
+    found ++ tokens_from (at + 1) c.token (opened_by os found) (c.size - 1) bs
 
 -- the tokens of a text
 abbrev pub placed_tokens : List ℕ → List Placed
