@@ -1,6 +1,8 @@
 pub mod ExamplesTokens
+pub mod Examples
+pub mod ExamplesPatterns
+pub mod Steps
+pub mod Exact
 pub mod Tables
 pub mod Opens
 pub mod Marked
-pub mod Examples
-pub mod ExamplesPatterns

@@ -13,8 +13,9 @@ use Rattle.expr_core.specs.declared.token.Token.TheVariants.{Dot, Operator, Pipe
 use Rattle.expr_core.specs.Language.{Mark, mark}
 use Rattle.expr_core.specs.Functions.{earlier}
 use Rattle.expr_core.specs.Grammar.{binds, left_of, may_deny, Callee, plain, marked, callee_at, callee_name, Key, word_key, text_key, key_text, bare, inside, Tree, number, text, atom, nil, boolean, assign, name, parens, before, between, field, index, list, tuple, map_of, call, piped, choice, choice_else, Trees, no_trees, tree, Parts, no_parts, part, Entries, no_entries, entry, holds, denies, callee_token, Grouped, AllGrouped, PartsGrouped, EntriesGrouped, key_marks, marks, listed, more_listed, part_marks, entry_marks, more_entries, plain_parts, meaning, meanings, part_meanings, entry_meanings, unknown, unknown_item, unknown_part, unknown_entry}
-use Rattle.expr_core.specs.Machine.{Value, Opener, listing, tupling, calling, piping, Frames, operand, ahead, paren, indexed, items, putting, valued, test, inner_test, yes_of, no_of, State, want, have, want_assign, want_field, want_call, want_arguments, want_if, want_do, want_else, want_part, want_key, want_colon, want_quote, want_arrow, closed, finish, map_from, need, reduce, put_operator, put_pipe, put_closing, put_part, put_comma, step, nest, depth}
+use Rattle.expr_core.specs.Machine.{Value, Opener, listing, tupling, calling, piping, Frames, operand, ahead, paren, indexed, items, putting, valued, test, inner_test, yes_of, no_of, State, want, have, want_assign, want_field, want_call, want_arguments, want_if, want_do, want_else, want_part, want_key, want_colon, want_quote, want_arrow, closed, finish, map_from, need, reduce, put_operator, put_pipe, put_closing, put_part, put_comma, step, nest, expr_reader}
 use Rattle.expr_core.proofs.Tables.{le_left, left_5, binds_below, earlier_none, earlier_assoc}
+use Rattle.expr_core.proofs.Steps as steps
 use Rattle.expr_core.proofs.Opens.{means, held, opened, behind, reduced, if_true, closes, stops}
 
 -- a value, and a bracket that is open below it
@@ -52,20 +53,17 @@ whole (map_of es) fs h = refl
 whole (call c ts) fs h = refl
 whole (piped l c ts) fs h = absurd (omega arith)
 
--- the machine goes from one state to another over these marks
 abbrev pub Goes : State → List Mark → State → Type 0
-Goes s [] s' = s ≡ s'
-Goes s (m ∷ ms) s' = (u : State) × (step s m.token ≡ Some u) × (depth u ≡ m.depth) × Goes u ms s'
+Goes s ms s' = steps.Goes expr_reader s ms s'
 
 join : (a b : List Mark) (s u v : State) → Goes s a u → Goes u b v → Goes s (a ++ b) v
-join [] b s u v h k = subst (λ w. Goes w b v) (sym h) k
-join (m ∷ a) b s u v h k = (h.0, h.1, h.2, join a b h.0 u v h.3 k)
+join a b s u v h k = steps.join expr_reader a b s u v h k
 
 join_front : (a b c : List Mark) (s u v : State) → Goes s a u → Goes u (b ++ c) v → Goes s ((a ++ b) ++ c) v
-join_front a b c s u v h k = subst (λ l. Goes s l v) (sym (append_assoc a b c)) (join a (b ++ c) s u v h k)
+join_front a b c s u v h k = steps.join_front expr_reader a b c s u v h k
 
 and_none : (a : List Mark) (s u : State) → Goes s a u → Goes s (a ++ []) u
-and_none a s u h = subst (λ l. Goes s l u) (sym (append-nil a)) h
+and_none a s u h = steps.and_none expr_reader a s u h
 
 closing_step : (b : Bracket) (t : Tree) (fs : Frames) → Grouped t → Waits fs → step (behind (opened t fs)) (Closing b) ≡ put_closing b (held t) fs
 closing_step b t fs g w = ap (λ p. put_closing b p.0 p.1) (closes t 0 fs g (omega arith) ∙ w (held t))
