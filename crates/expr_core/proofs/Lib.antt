@@ -6,3 +6,4 @@ pub mod Exact
 pub mod Tables
 pub mod Opens
 pub mod Marked
+pub mod Shapes
