@@ -7,3 +7,4 @@ pub mod Tables
 pub mod Opens
 pub mod Marked
 pub mod Shapes
+pub mod Viable
