@@ -8,3 +8,4 @@ pub mod Opens
 pub mod Marked
 pub mod Shapes
 pub mod Viable
+pub mod Keeps
