@@ -9,3 +9,5 @@ pub mod Marked
 pub mod Shapes
 pub mod Viable
 pub mod Keeps
+pub mod Texts
+pub mod ExprExact
