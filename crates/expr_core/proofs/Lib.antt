@@ -11,3 +11,4 @@ pub mod Viable
 pub mod Keeps
 pub mod Texts
 pub mod ExprExact
+pub mod PatternGoes
