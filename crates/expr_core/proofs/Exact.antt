@@ -1,16 +1,16 @@
 -- A reader's outcome is the right one.
-use Rattle.std.proofs.Common.{◌≡◌, ℕ, ◌+◌, ◌<◌, ◌≤◌, List, [], ◌∷◌, ◌++◌, length, take, map, Bool, true, false, Option, Some, None, refl, sym, ap, ◌∙◌, subst, arith, append_assoc, append-nil, length-append}
+use Rattle.std.proofs.Common.{◌≡◌, ℕ, ◌+◌, ◌<◌, ◌≤◌, List, [], ◌∷◌, ◌++◌, length, take, Bool, true, false, Option, Some, None, refl, sym, ap, ◌∙◌, subst, arith, append_assoc, append-nil, length-append}
 use Rattle.std.specs.Prelude.{option_and_then, nat_le, if◌then◌else◌}
-use Rattle.std.specs.List.{AllByRecursion, slice_get}
+use Rattle.std.specs.List.{slice_get}
 use Rattle.std.proofs.lemmas.Bool.{leb-true, le-leb}
-use Rattle.std.proofs.lemmas.Bool.Decides.{leb_tells, nat_tests}
+use Rattle.std.proofs.lemmas.Bool.Decides.{nat_tests}
 use Rattle.std.proofs.lemmas.List.{map-append}
 use Rattle.std.proofs.Math.Seq.{take-append_seam}
 use Rattle.expr_core.specs.declared.token.Token.{Token}
 use Rattle.expr_core.specs.declared.token.Token.TheVariants.{Number, BadNumber, Word, Function, Atom, Nil, Boolean, At, Dot, Operator, Bang, NotWord, Pipe, Comma, Colon, Arrow, If, DoColon, ElseColon, OpeningRound, CallOpening, OpeningSquare, IndexOpening, OpeningCurly, OpeningMap, Closing, Quote, PartOpening, PartClosing, QuoteEnd, Foreign}
-use Rattle.expr_core.specs.Language.{Mark, mark, Language, spelled_by, Reads, Begins, IsShallow, AllShallow, Spells, Begun, IsDeep, FaultAt, BadNumberAt, StrayAt, DeepAt, Ended}
-use Rattle.expr_core.specs.Outcome.{Outcome, done, stray, bad_number, too_deep, ended, Answers, Reader, at_end, at_fault, on_step, outcome, outcome_of}
-use Rattle.expr_core.proofs.Steps.{Goes, run, goes_runs, Completes, Tells, Leads, Taken, Proof}
+use Rattle.expr_core.specs.Language.{Mark, mark, Language, spelled_by, Reads, Begins, AllShallow, Spells, Begun, IsDeep, FaultAt, DeepAt}
+use Rattle.expr_core.specs.Outcome.{Outcome, done, too_deep, Answers, Reader, at_end, at_fault, on_step, outcome, outcome_of}
+use Rattle.expr_core.proofs.Steps.{Goes, run, goes_runs, Proof}
 
 chained : {S : Type 0} (o : Option S) (f g : S → Option S) → option_and_then g (option_and_then f o) ≡ option_and_then (λ s. option_and_then g (f s)) o
 chained None f g = refl
@@ -101,7 +101,6 @@ run_one : {A : Type 0} (R : Reader A) (before : List Token) (t : Token) (s s' : 
 run_one R before t s s' e k = run_from R before (t ∷ []) s e ∙ ap (option_and_then (λ u. Some u)) k
 
 module _ (L : Language) (R : Reader L.Meaning) (P : Proof L R) where
-
   -- a reading is run to its end
   runs : (ts : List Token) (t : L.Tree) (r : Reads L ts t) → run R R.start ts ≡ Some (P.leads t r.lawful).state
   runs ts t r =
@@ -138,7 +137,7 @@ module _ (L : Language) (R : Reader L.Meaning) (P : Proof L R) where
   faults before t after u h e = record {
     within = within_all before t after;
     begun = subst (Begun L) (sym (first_of_all before (t ∷ after))) (begun before u h);
-    over = subst (λ l. Begins L l → ⊥) (sym (one_more before t after)) none
+    over = subst (λ l. Begins L l → ⊥) (sym (one_more before t after)) none;
   }
     where
       none : Begins L (before ++ t ∷ []) → ⊥
@@ -153,10 +152,15 @@ module _ (L : Language) (R : Reader L.Meaning) (P : Proof L R) where
     within = within_all before t after;
     begun = subst (Begun L) (sym (first_of_all before (t ∷ after))) (begun before u h);
     deep = subst (IsDeep L) (sym (one_more before t after)) (let c = P.viable w f in record {
-      tree = c.tree; front = P.told u; last = mark (P.deep w) t; more = c.more; lawful = c.lawful;
+      tree = c.tree;
+      front = P.told u;
+      last = mark (P.deep w) t;
+      more = c.more;
+      lawful = c.lawful;
       same = c.same ∙ ap (λ l. l ++ c.more) e;
       spelled = map-append (λ m. m.token) (P.told u) (mark (P.deep w) t ∷ []) ∙ ap (λ l. l ++ t ∷ []) h.spelled;
-      deep = d })
+      deep = d;
+    });
   }
 
   stands_more : (before : List Token) (t : Token) (u w : P.Shape) → Stands before u → R.step (P.seen u) t ≡ Some (P.seen w) → P.Fine w → P.told w ≡ P.told u ++ mark (P.deep w) t ∷ [] → P.deep w ≤ 64 → Stands (before ++ t ∷ []) w
@@ -164,7 +168,7 @@ module _ (L : Language) (R : Reader L.Meaning) (P : Proof L R) where
     fine = f;
     came = run_one R before t (P.seen u) (P.seen w) h.came s;
     spelled = ap spelled_by e ∙ map-append (λ m. m.token) (P.told u) (mark (P.deep w) t ∷ []) ∙ ap (λ l. l ++ t ∷ []) h.spelled;
-    shallow = subst AllShallow (sym e) (shallow_more (P.told u) (mark (P.deep w) t) h.shallow d)
+    shallow = subst AllShallow (sym e) (shallow_more (P.told u) (mark (P.deep w) t) h.shallow d);
   }
 
   -- the answers behind one more token
@@ -177,7 +181,7 @@ module _ (L : Language) (R : Reader L.Meaning) (P : Proof L R) where
       let i = go_on w (stands_more before t u w h s f e (leb-true _ _ k)) in
       let n : length (before ++ t ∷ []) ≡ length before + 1 = length-append before (t ∷ []) in
       subst (λ l. Answers L l (outcome R ts (length before + 1) (P.seen w))) (append_assoc before (t ∷ []) ts)
-        (subst (λ j. Answers L ((before ++ t ∷ []) ++ ts) (outcome R ts j (P.seen w))) n i)
+      (subst (λ j. Answers L ((before ++ t ∷ []) ++ ts) (outcome R ts j (P.seen w))) n i)
   further before t ts u w go_on h s f e false k = too_far before t ts u w h f e (above (P.deep w) k)
 
   at_depth : (before : List Token) (t : Token) (ts : List Token) (u w : P.Shape) → Onward before t ts → Stands before u → R.step (P.seen u) t ≡ Some (P.seen w) → P.Fine w → P.told w ≡ P.told u ++ mark (P.deep w) t ∷ []
@@ -189,7 +193,7 @@ module _ (L : Language) (R : Reader L.Meaning) (P : Proof L R) where
   next before t ts u (Some s) go_on h e =
       let k = P.takes u t s h.fine e in
       subst (λ v. Answers L (before ++ t ∷ ts) (on_step R.depth (outcome R ts (length before + 1)) t (length before) (Some v))) k.is
-        (at_depth before t ts u k.shape go_on h (e ∙ ap (λ v. Some v) (sym k.is)) k.fine k.same)
+      (at_depth before t ts u k.shape go_on h (e ∙ ap (λ v. Some v) (sym k.is)) k.fine k.same)
 
   answers : (ts before : List Token) (u : P.Shape) → Stands before u → Answers L (before ++ ts) (outcome R ts (length before) (P.seen u))
   answers [] before u h = subst (λ l. Answers L l (at_end (R.finished (P.seen u)))) (sym (append-nil before)) (at_the_end before u (R.finished (P.seen u)) h refl)
@@ -199,7 +203,7 @@ module _ (L : Language) (R : Reader L.Meaning) (P : Proof L R) where
   pub exact : (ts : List Token) → Answers L ts (outcome_of R ts)
   exact ts =
       subst (λ s. Answers L ts (outcome R ts 0 s)) P.first_seen
-        (answers ts [] P.first (record { fine = P.first_fine; came = ap (λ s. Some s) (sym P.first_seen); spelled = ap spelled_by P.first_told; shallow = subst AllShallow (sym P.first_told) tt }))
+      (answers ts [] P.first (record { fine = P.first_fine; came = ap (λ s. Some s) (sym P.first_seen); spelled = ap spelled_by P.first_told; shallow = subst AllShallow (sym P.first_told) tt }))
 
   -- tokens that spell something lead there
   shallow_run : (ms : List Mark) (s u : R.State) (n : ℕ) → Goes R s ms u → AllShallow ms → outcome R (spelled_by ms) n s ≡ at_end (R.finished u)

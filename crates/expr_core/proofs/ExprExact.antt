@@ -1,17 +1,17 @@
 -- The reader of expressions is exact.
-use Rattle.std.proofs.Common.{◌≡◌, ℕ, ◌+◌, ◌≤◌, List, [], ◌∷◌, ◌++◌, length, map, Option, Some, None, Ok, Err, refl, sym, ap, ◌∙◌, subst, arith}
+use Rattle.std.proofs.Common.{◌≡◌, ℕ, List, [], ◌∷◌, ◌++◌, length, Option, Some, None, Ok, refl, sym, ap, ◌∙◌, subst, arith}
 use Rattle.ast_core.specs.Syntax.{Expr}
 use Rattle.expr_core.specs.declared.token.Token.{Token}
 use Rattle.expr_core.specs.declared.token.Placed.{Placed}
-use Rattle.expr_core.specs.Tokens.{placed_tokens, left_open}
-use Rattle.expr_core.specs.Language.{Mark, mark, Spells, Ended}
+use Rattle.expr_core.specs.Tokens.{left_open}
+use Rattle.expr_core.specs.Language.{Spells, Ended}
 use Rattle.expr_core.specs.Outcome.{Outcome, done, stray, bad_number, too_deep, ended, Answers, outcome_of}
 use Rattle.expr_core.specs.Grammar.{Tree, Meant, meant, marks, Grouped, expressions}
-use Rattle.expr_core.specs.Machine.{State, Value, Frames, reduce, step, ends, meant_by, finished, expr_reader}
+use Rattle.expr_core.specs.Machine.{State, step, ends, meant_by, finished, expr_reader}
 use Rattle.expr_core.specs.Answers.{tokens_of, SpellsExpr, AnswersExpr, at_text_end, answer_by, known_or, expr_of}
 use Rattle.expr_core.proofs.Opens.{means, held, opened, behind, closes}
 use Rattle.expr_core.proofs.Marked.{goes}
-use Rattle.expr_core.proofs.Steps.{Tells, Leads, Taken, Proof}
+use Rattle.expr_core.proofs.Steps.{Tells, Leads, Proof}
 use Rattle.expr_core.proofs.Shapes.{Piece, Shape, wants, has, wants_assign, wants_field, wants_call, wants_arguments, wants_if, wants_do, wants_else, wants_part, wants_key, wants_colon, wants_quote, wants_arrow, seen, seen_shape, nest, shown, depth, told, FineShape, same_depth}
 use Rattle.expr_core.proofs.Viable.{viable}
 use Rattle.expr_core.proofs.Keeps.{reduces, Holds, Takes, takes}
@@ -31,7 +31,7 @@ tells (has t ps) m f e =
       tree = r.tree;
       lawful = r.grouped;
       same = subst (λ (qs : List Piece). shown qs ++ marks (nest qs) r.tree ≡ told (has t ps)) k.0 r.same;
-      means = k.1
+      means = k.1;
     }
 tells (wants ps) m f e = cc
 tells (wants_assign ps) m f e = cc
@@ -54,14 +54,25 @@ pub leads : (t : Tree) → Grouped t → Leads expressions expr_reader t
 leads t g = record {
   state = behind (opened t []);
   goes = goes t [] g (omega arith);
-  finished = ap (λ p. meant_by (ends p)) (closes t 0 [] g (omega arith))
+  finished = ap (λ p. meant_by (ends p)) (closes t 0 [] g (omega arith));
 }
 
 abbrev pub expr_proof : Proof expressions expr_reader
 expr_proof = record {
-  Shape = Shape; seen = seen_shape; Fine = FineShape; told = told; deep = depth;
-  first = wants []; first_seen = refl; first_fine = tt; first_told = refl;
-  same_depth = same_depth; takes = taken; viable = viable; ends = tells; leads = leads
+  Shape = Shape;
+  seen = seen_shape;
+  Fine = FineShape;
+  told = told;
+  deep = depth;
+  first = wants [];
+  first_seen = refl;
+  first_fine = tt;
+  first_told = refl;
+  same_depth = same_depth;
+  takes = taken;
+  viable = viable;
+  ends = tells;
+  leads = leads;
 }
 
 -- what becomes of tokens is right

@@ -1,5 +1,5 @@
 -- What the reader of expressions takes is a tree that is begun.
-use Rattle.std.proofs.Common.{◌≡◌, ℕ, ◌+◌, ◌<◌, ◌≤◌, List, [], ◌∷◌, ◌++◌, map, Bool, true, false, ◌&&◌, Option, Some, None, refl, sym, ap, ◌∙◌, subst, arith, append_assoc, append-nil}
+use Rattle.std.proofs.Common.{◌≡◌, ℕ, ◌+◌, ◌≤◌, List, [], ◌∷◌, ◌++◌, map, Bool, true, false, ◌&&◌, Option, Some, None, refl, sym, ap, ◌∙◌, subst, arith, append_assoc, append-nil}
 use Rattle.std.specs.Prelude.{nat_le, if◌then◌else◌}
 use Rattle.std.proofs.lemmas.Bool.{leb-true}
 use Rattle.std.proofs.lemmas.List.{map-append}
@@ -7,18 +7,18 @@ use Rattle.ast_core.specs.declared.operators.UnaryOp.TheVariants as un
 use Rattle.ast_core.specs.declared.operators.BinaryOp.{BinaryOp}
 use Rattle.ast_core.specs.declared.operators.BinaryOp.TheVariants as op
 use Rattle.ast_core.specs.Syntax as x
-use Rattle.ast_core.specs.ExprView.{expr_part, parts_of, pairs_of}
+use Rattle.ast_core.specs.ExprView.{expr_part, parts_of}
 use Rattle.expr_core.specs.declared.token.Bracket.{Bracket}
 use Rattle.expr_core.specs.declared.token.Bracket.TheVariants.{Round, Square, Curly}
 use Rattle.expr_core.specs.declared.token.Token.{Token}
-use Rattle.expr_core.specs.declared.token.Token.TheVariants.{Number, BadNumber, Word, Function, Atom, Nil, Boolean, At, Dot, Operator, Bang, NotWord, Pipe, Comma, Colon, Arrow, If, DoColon, ElseColon, OpeningRound, CallOpening, OpeningSquare, IndexOpening, OpeningCurly, OpeningMap, Closing, Quote, PartOpening, PartClosing, QuoteEnd, Foreign}
+use Rattle.expr_core.specs.declared.token.Token.TheVariants.{Number, Word, Function, Atom, Nil, Boolean, At, Dot, Operator, Bang, NotWord, Pipe, Comma, Colon, Arrow, If, DoColon, ElseColon, OpeningRound, CallOpening, OpeningSquare, IndexOpening, OpeningCurly, OpeningMap, Closing, Quote, PartOpening, PartClosing, QuoteEnd}
 use Rattle.expr_core.specs.Language.{Mark, mark}
 use Rattle.expr_core.specs.Functions.{earlier}
-use Rattle.expr_core.specs.Grammar.{binds, left_of, right_of, may_deny, Callee, plain, marked, callee_at, callee_name, Key, word_key, text_key, key_text, Style, bare, inside, Tree, number, text, atom, nil, boolean, assign, name, parens, before, between, field, index, list, tuple, map_of, call, piped, choice, choice_else, Trees, no_trees, Parts, Entries, no_entries, holds, denies, Grouped, key_marks, marks, part_marks, entry_marks, plain_parts, meaning, part_meanings, entry_meanings, unknown, unknown_part, unknown_entry}
-use Rattle.expr_core.specs.Machine.{Value, Opener, Frames, operand, ahead, paren, indexed, items, putting, valued, test, inner_test, yes_of, no_of, State, want, have, want_assign, want_field, want_call, want_arguments, want_if, want_do, want_else, want_part, want_key, want_colon, want_quote, want_arrow, closed, finish, map_from, need, reduce, put_operator, put_pipe, put_closing, put_part, put_comma, put_empty, open_call, empty_map, on_want, on_have, on_key, step}
+use Rattle.expr_core.specs.Grammar.{binds, left_of, may_deny, plain, marked, Key, word_key, text_key, key_text, Style, bare, inside, Tree, number, text, atom, nil, boolean, assign, name, parens, before, between, field, index, map_of, choice, choice_else, no_trees, no_entries, holds, denies, Grouped, marks, plain_parts, meaning, unknown, unknown_part, unknown_entry}
+use Rattle.expr_core.specs.Machine.{Value, Frames, operand, indexed, items, test, State, want, have, want_assign, want_field, want_call, want_arguments, want_if, want_do, want_else, want_part, want_key, closed, finish, map_from, need, reduce, put_operator, put_pipe, put_closing, put_part, put_comma, put_empty, open_call, empty_map, on_want, on_have, on_key, step}
 use Rattle.expr_core.proofs.Opens.{means, held, callee_of}
 use Rattle.expr_core.proofs.Steps.{Taken}
-use Rattle.expr_core.proofs.Shapes.{Head, of_list, of_tuple, of_call, of_pipe, TextPart, MapEntry, Piece, left, front, open_paren, open_index, open_items, open_part, open_entry, open_test, open_inner, open_yes, open_no, Shape, wants, has, wants_assign, wants_field, wants_call, wants_arguments, wants_if, wants_do, wants_else, wants_part, wants_key, wants_colon, wants_quote, wants_arrow, seen_head, unknown_in, seen_parts, unknown_parts, seen_entries, unknown_entries, seen, seen_shape, nest, with_commas, parts_shown, entries_shown, named, headed, to_part, to_key, shown, depth, told, AllFine, FineHead, IsCall, FitsStyle, Fine, FineShape, need_le, style_need, trees_of, made, bracket, all_grouped, all_fine, unknown_more, item_marks, comma_marks, made_marks, made_grouped, made_fits, made_end, made_empty, parts_from, parts_grouped, parts_fine, parts_marks, parts_further, parts_seen, parts_unknown, parts_mean, parts_unknown_of, entries_from, entries_grouped, entries_fine, entries_marks, entries_further, entries_seen, entries_unknown, entries_mean, entries_unknown_of}
+use Rattle.expr_core.proofs.Shapes.{Head, of_list, of_tuple, of_call, of_pipe, TextPart, MapEntry, Piece, left, front, open_paren, open_index, open_items, open_part, open_entry, open_test, open_inner, open_yes, open_no, Shape, wants, has, wants_assign, wants_field, wants_call, wants_arguments, wants_if, wants_do, wants_else, wants_part, wants_key, wants_colon, wants_quote, wants_arrow, seen_head, unknown_in, seen_parts, unknown_parts, seen_entries, unknown_entries, seen, seen_shape, nest, with_commas, named, headed, shown, depth, told, AllFine, FineHead, IsCall, Fine, FineShape, need_le, trees_of, made, bracket, all_grouped, all_fine, unknown_more, item_marks, comma_marks, made_marks, made_grouped, made_fits, made_end, made_empty, parts_from, parts_grouped, parts_fine, parts_marks, parts_further, parts_seen, parts_unknown, parts_mean, parts_unknown_of, entries_from, entries_grouped, entries_fine, entries_marks, entries_further, entries_seen, entries_unknown, entries_mean, entries_unknown_of}
 
 -- What a value and what is below it stand for, with the same tokens as before.
 pub record Found (t : Tree) (ps : List Piece) (p : Value × Frames) : Type 0 where
@@ -44,12 +44,12 @@ pub reduces : (ps : List Piece) (n : ℕ) (t : Tree) → Grouped t → need (see
 reduces [] n t g h f = found_here t [] g h f
 reduces (left o l ∷ ps) n t g h f =
     either (nat_le n (binds o)) t (left o l ∷ ps) _ _
-      (regrouped t (between o l t) (left o l ∷ ps) ps _ (simp append_assoc) (reduces ps n (between o l t) (f.1, h, f.2, f.0, g) f.3 f.4))
-      (found_here t (left o l ∷ ps) g h f)
+    (regrouped t (between o l t) (left o l ∷ ps) ps _ (simp append_assoc) (reduces ps n (between o l t) (f.1, h, f.2, f.0, g) f.3 f.4))
+    (found_here t (left o l ∷ ps) g h f)
 reduces (front o ∷ ps) n t g h f =
     either (nat_le n 10) t (front o ∷ ps) _ _
-      (regrouped t (before o t) (front o ∷ ps) ps _ (simp append_assoc) (reduces ps n (before o t) (h, g) (need_le ps) f))
-      (found_here t (front o ∷ ps) g h f)
+    (regrouped t (before o t) (front o ∷ ps) ps _ (simp append_assoc) (reduces ps n (before o t) (h, g) (need_le ps) f))
+    (found_here t (front o ∷ ps) g h f)
 reduces (open_paren ∷ ps) n t g h f = found_here t (open_paren ∷ ps) g h f
 reduces (open_index u ∷ ps) n t g h f = found_here t (open_index u ∷ ps) g h f
 reduces (open_items a ts ∷ ps) n t g h f = found_here t (open_items a ts ∷ ps) g h f
@@ -61,12 +61,12 @@ reduces (open_yes inside u ∷ ps) n t g h f = found_here t (open_yes inside u �
 reduces (open_no inside u y ∷ ps) n t g h f = found_here t (open_no inside u y ∷ ps) g h f
 reduces (open_yes bare u ∷ ps) n t g h f =
     either (nat_le n 0) t (open_yes bare u ∷ ps) _ _
-      (regrouped t (choice bare u t) (open_yes bare u ∷ ps) ps _ (simp (append_assoc, append-nil)) (reduces ps n (choice bare u t) (f.1, h, f.2, g) f.0 f.3))
-      (found_here t (open_yes bare u ∷ ps) g h f)
+    (regrouped t (choice bare u t) (open_yes bare u ∷ ps) ps _ (simp (append_assoc, append-nil)) (reduces ps n (choice bare u t) (f.1, h, f.2, g) f.0 f.3))
+    (found_here t (open_yes bare u ∷ ps) g h f)
 reduces (open_no bare u y ∷ ps) n t g h f =
     either (nat_le n 0) t (open_no bare u y ∷ ps) _ _
-      (regrouped t (choice_else bare u y t) (open_no bare u y ∷ ps) ps _ (simp (append_assoc, append-nil)) (reduces ps n (choice_else bare u y t) (f.1, f.2, h, f.3, f.4, g) f.0 f.5))
-      (found_here t (open_no bare u y ∷ ps) g h f)
+    (regrouped t (choice_else bare u y t) (open_no bare u y ∷ ps) ps _ (simp (append_assoc, append-nil)) (reduces ps n (choice_else bare u y t) (f.1, f.2, h, f.3, f.4, g) f.0 f.5))
+    (found_here t (open_no bare u y ∷ ps) g h f)
 
 -- What the reader holds next stands for the tokens so far and one more.
 abbrev pub Holds : List Mark → Token → State → Type 0
@@ -127,12 +127,12 @@ items_taken h ts t ps i g k a f =
     let n = nest ps in
     let c = mark n (Closing (bracket h)) ∷ [] in
     let e : marks n (made h us) ≡ headed n h ++ ((with_commas (n + 1) ts ++ marks (n + 1) t) ++ c)
-      = made_marks h us n ∙ ap (λ l. headed n h ++ (l ++ c)) (item_marks ts t (n + 1)) in
+    = made_marks h us n ∙ ap (λ l. headed n h ++ (l ++ c)) (item_marks ts t (n + 1)) in
     record {
       shape = has (made h us) ps;
       is = ap (λ v. have v (seen ps)) (made_end h ts t);
       fine = (made_grouped h ps us k (all_grouped ts t a i g), made_fits h ps us k, f);
-      same = ap (λ l. shown ps ++ l) e ∙ simp append_assoc
+      same = ap (λ l. shown ps ++ l) e ∙ simp append_assoc;
     }
 
 -- an entry that ends its map
@@ -147,7 +147,7 @@ entry_taken es k t ps i g f =
       shape = has (map_of (entries_from rs)) ps;
       is = ap (λ l. have (map_from l (unknown_entry (entries_from rs))) (seen ps)) pairs ∙ ap (λ w. have (map_from (seen_entries es ++ (key_text k, meaning t) ∷ []) w) (seen ps)) places;
       fine = (entries_grouped es k t f.0 i g, omega (arith, need_le ps), f.1);
-      same = ap (λ l. shown ps ++ mark (n + 1) OpeningMap ∷ (l ++ mark n (Closing Curly) ∷ [])) (entries_marks es k t (n + 1)) ∙ simp append_assoc
+      same = ap (λ l. shown ps ++ mark (n + 1) OpeningMap ∷ (l ++ mark n (Closing Curly) ∷ [])) (entries_marks es k t (n + 1)) ∙ simp append_assoc;
     }
 
 closing_takes : (b : Bracket) (t : Tree) (ps : List Piece) → Grouped t → need (seen ps) ≤ holds t → Fine ps → Takes (all_of t ps) (Closing b) (put_closing b (held t) (seen ps))
@@ -212,12 +212,12 @@ part_takes s t (open_no y u z ∷ ps) g i f = tt
 part_takes s t (open_part r qs ∷ ps) g i f =
     let rs = qs ++ (t, s) ∷ [] in
     let e : plain_parts r ++ seen_parts rs ≡ (plain_parts r ++ seen_parts qs) ++ expr_part (meaning t) ∷ plain_parts s
-      = ap (λ l. plain_parts r ++ l) (parts_seen qs t s) ∙ sym (append_assoc (plain_parts r) (seen_parts qs) (expr_part (meaning t) ∷ plain_parts s)) in
+    = ap (λ l. plain_parts r ++ l) (parts_seen qs t s) ∙ sym (append_assoc (plain_parts r) (seen_parts qs) (expr_part (meaning t) ∷ plain_parts s)) in
     record {
       shape = wants_part r rs ps;
       is = ap (λ l. want_part l (unknown_parts rs) (seen ps)) e ∙ ap (λ w. want_part ((plain_parts r ++ seen_parts qs) ++ expr_part (meaning t) ∷ plain_parts s) w (seen ps)) (parts_unknown qs t s);
       fine = (parts_fine qs t s f.0 i g, f.1);
-      same = ap (λ l. shown ps ++ mark (nest ps) (Quote r) ∷ l) (parts_further qs t s (nest ps)) ∙ simp append_assoc
+      same = ap (λ l. shown ps ++ mark (nest ps) (Quote r) ∷ l) (parts_further qs t s (nest ps)) ∙ simp append_assoc;
     }
 
 comma_takes : (t : Tree) (ps : List Piece) → Grouped t → need (seen ps) ≤ holds t → Fine ps → Takes (all_of t ps) Comma (put_comma (held t) (seen ps))
@@ -250,13 +250,13 @@ comma_takes t (open_items h ts ∷ ps) g i f = record {
   shape = wants (open_items h (ts ++ t ∷ []) ∷ ps);
   is = ap (λ vs. want (items (seen_head h) vs (unknown_in (ts ++ t ∷ [])) ∷ seen ps)) (map-append meaning ts (t ∷ [])) ∙ ap (λ w. want (items (seen_head h) (map meaning ts ++ meaning t ∷ []) w ∷ seen ps)) (unknown_more ts t);
   fine = (f.0, all_fine ts t f.1 i g, f.2);
-  same = ap (λ l. shown ps ++ (headed (nest ps) h ++ l)) (comma_marks ts t (nest ps + 1)) ∙ simp append_assoc
+  same = ap (λ l. shown ps ++ (headed (nest ps) h ++ l)) (comma_marks ts t (nest ps + 1)) ∙ simp append_assoc;
 }
 comma_takes t (open_entry es k ∷ ps) g i f = record {
   shape = wants_key (es ++ (k, t) ∷ []) ps;
   is = ap (λ l. want_key l (unknown_entries (es ++ (k, t) ∷ [])) (seen ps)) (entries_seen es k t) ∙ ap (λ w. want_key (seen_entries es ++ (key_text k, meaning t) ∷ []) w (seen ps)) (entries_unknown es k t);
   fine = (entries_fine es k t f.0 i g, f.1);
-  same = ap (λ l. shown ps ++ mark (nest ps + 1) OpeningMap ∷ l) (entries_further es k t (nest ps + 1)) ∙ simp append_assoc
+  same = ap (λ l. shown ps ++ mark (nest ps + 1) OpeningMap ∷ l) (entries_further es k t (nest ps + 1)) ∙ simp append_assoc;
 }
 
 empty_taken : (h : Head) (ps : List Piece) → FineHead h ps → Fine ps → Holds (shown (open_items h [] ∷ ps)) (Closing (bracket h)) (have (finish (seen_head h) [] None) (seen ps))
@@ -264,7 +264,7 @@ empty_taken h ps k f = record {
   shape = has (made h no_trees) ps;
   is = ap (λ v. have v (seen ps)) (made_empty h);
   fine = (made_grouped h ps no_trees k tt, made_fits h ps no_trees k, f);
-  same = ap (λ l. shown ps ++ l) (made_marks h no_trees (nest ps)) ∙ simp (append_assoc, append-nil)
+  same = ap (λ l. shown ps ++ l) (made_marks h no_trees (nest ps)) ∙ simp (append_assoc, append-nil);
 }
 
 empty_takes : (b : Bracket) (ps : List Piece) → Fine ps → Takes (shown ps) (Closing b) (put_empty b (seen ps))
@@ -391,7 +391,7 @@ arguments_takes CallOpening h ps f = record {
   shape = wants (open_items h [] ∷ ps);
   is = refl;
   fine = (f.1, tt, f.2);
-  same = ap (λ l. shown ps ++ (l ++ [])) (opened_head h (nest ps) f.0) ∙ simp (append_assoc, append-nil)
+  same = ap (λ l. shown ps ++ (l ++ [])) (opened_head h (nest ps) f.0) ∙ simp (append_assoc, append-nil);
 }
 arguments_takes _ h ps f = tt
 
@@ -416,7 +416,7 @@ text_takes QuoteEnd s qs ps f =
       shape = has t ps;
       is = ap (λ l. have (closed (x.text_of (parts_of (plain_parts s ++ l))) (unknown_part (parts_from qs))) (seen ps)) (parts_mean qs) ∙ ap (λ w. have (closed (x.text_of (parts_of (plain_parts s ++ seen_parts qs))) w) (seen ps)) (parts_unknown_of qs);
       fine = (parts_grouped qs f.0, omega (arith, need_le ps), f.1);
-      same = ap (λ l. shown ps ++ mark n (Quote s) ∷ (l ++ mark n QuoteEnd ∷ [])) (parts_marks qs n) ∙ simp append_assoc
+      same = ap (λ l. shown ps ++ mark n (Quote s) ∷ (l ++ mark n QuoteEnd ∷ [])) (parts_marks qs n) ∙ simp append_assoc;
     }
 text_takes _ s qs ps f = tt
 

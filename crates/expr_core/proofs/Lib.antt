@@ -12,3 +12,5 @@ pub mod Keeps
 pub mod Texts
 pub mod ExprExact
 pub mod PatternGoes
+pub mod PatternShapes
+pub mod PatternExact

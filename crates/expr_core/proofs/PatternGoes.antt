@@ -1,15 +1,15 @@
 -- The tokens of a pattern lead the reader to it, each at its depth.
-use Rattle.std.proofs.Common.{◌≡◌, ℕ, ◌+◌, List, [], ◌∷◌, ◌++◌, Bool, true, false, Option, Some, None, refl, sym, ap, ◌∙◌, subst, append_assoc}
+use Rattle.std.proofs.Common.{◌≡◌, ℕ, ◌+◌, List, [], ◌∷◌, ◌++◌, Bool, true, false, Some, None, refl, sym, subst, append_assoc}
 use Rattle.std.specs.Prelude.{if◌then◌else◌}
 use Rattle.ast_core.specs.Syntax.{Pattern}
 use Rattle.ast_core.specs.Syntax as x
 use Rattle.ast_core.specs.PatternView.{keys_of}
 use Rattle.expr_core.specs.declared.token.Bracket.{Bracket}
 use Rattle.expr_core.specs.declared.token.Bracket.TheVariants.{Square, Curly}
-use Rattle.expr_core.specs.declared.token.Token.TheVariants.{Word, Comma, Colon, Closing}
+use Rattle.expr_core.specs.declared.token.Token.TheVariants.{Closing}
 use Rattle.expr_core.specs.Language.{Mark, mark}
 use Rattle.expr_core.specs.PatternGrammar.{Tree, word, number, negative, text, atom, nil, boolean, list, tuple, map_of, Trees, no_trees, tree, Entries, no_entries, entry, is_any, names, all_names, entry_names, among, Fresh, marks, listed, more_listed, entry_marks, more_entries, word_pattern, meaning, meanings, entry_meanings}
-use Rattle.expr_core.specs.PatternMachine.{Opener, listing, tupling, Frames, items, valued, State, want, have, want_number, want_quote, want_key, want_colon, finish, put_closing, put_empty, step, nest, pattern_reader}
+use Rattle.expr_core.specs.PatternMachine.{Opener, listing, tupling, Frames, items, valued, State, want, have, want_number, want_quote, want_key, want_colon, finish, put_closing, put_empty, nest, pattern_reader}
 use Rattle.expr_core.proofs.Steps as steps
 
 -- the names before, with more that follow
@@ -75,7 +75,7 @@ mutual
       let c = mark (nest fs) (Closing (closer o)) ∷ [] in
       let g = fresh_apart ns (names t) (all_names ts) f in
       subst (λ l. Goes (want ns (items o [] ∷ fs)) (listed (nest fs + 1) (tree t ts) ++ c) (have l (finish o (meaning t ∷ meanings ts)) fs)) (sym (onto_append ns (names t) (all_names ts)))
-        (join_front (marks (nest fs + 1) t) (more_listed (nest fs + 1) ts) c _ _ _ (goes t ns (items o [] ∷ fs) g.0) (goes_more ts (meaning t) o [] (onto ns (names t)) fs g.1))
+      (join_front (marks (nest fs + 1) t) (more_listed (nest fs + 1) ts) c _ _ _ (goes t ns (items o [] ∷ fs) g.0) (goes_more ts (meaning t) o [] (onto ns (names t)) fs g.1))
 
   pub goes_more : (ts : Trees) (p : Pattern) (o : Opener) (ps : List Pattern) (ns : List (List ℕ)) (fs : Frames) → Fresh ns (all_names ts)
       → Goes (have ns p (items o ps ∷ fs)) (more_listed (nest fs + 1) ts ++ mark (nest fs) (Closing (closer o)) ∷ []) (have (onto ns (all_names ts)) (finish o (ps ++ p ∷ meanings ts)) fs)
@@ -84,21 +84,32 @@ mutual
       let c = mark (nest fs) (Closing (closer o)) ∷ [] in
       let g = fresh_apart ns (names t) (all_names ts) f in
       let ps' = ps ++ p ∷ [] in
-      let ns' = onto ns (names t) in
-      (want ns (items o ps' ∷ fs), refl, refl,
-       join_front (marks (nest fs + 1) t) (more_listed (nest fs + 1) ts) c _ _ _ (goes t ns (items o ps' ∷ fs) g.0)
-        (subst (λ l. Goes (have ns' (meaning t) (items o ps' ∷ fs)) (more_listed (nest fs + 1) ts ++ c) (have l (finish o (ps ++ p ∷ meaning t ∷ meanings ts)) fs)) (sym (onto_append ns (names t) (all_names ts)))
-         (subst (λ l. Goes (have ns' (meaning t) (items o ps' ∷ fs)) (more_listed (nest fs + 1) ts ++ c) (have (onto ns' (all_names ts)) (finish o l) fs)) (append_assoc ps (p ∷ []) (meaning t ∷ meanings ts)) (goes_more ts (meaning t) o ps' ns' fs g.1))))
+      let ns' = onto ns (names t) in (
+        want ns (items o ps' ∷ fs),
+        refl,
+        refl,
+        join_front (marks (nest fs + 1) t) (more_listed (nest fs + 1) ts) c _ _ _ (goes t ns (items o ps' ∷ fs) g.0)
+            (subst (λ l. Goes (have ns' (meaning t) (items o ps' ∷ fs)) (more_listed (nest fs + 1) ts ++ c) (have l (finish o (ps ++ p ∷ meaning t ∷ meanings ts)) fs)) (sym (onto_append ns (names t) (all_names ts)))
+            (subst (λ l. Goes (have ns' (meaning t) (items o ps' ∷ fs)) (more_listed (nest fs + 1) ts ++ c) (have (onto ns' (all_names ts)) (finish o l) fs)) (append_assoc ps (p ∷ []) (meaning t ∷ meanings ts)) (goes_more ts (meaning t) o ps' ns' fs g.1))),
+      )
 
   pub goes_entries : (es : Entries) (ns : List (List ℕ)) (fs : Frames) → Fresh ns (entry_names es)
       → Goes (want_key ns [] fs) (entry_marks (nest fs + 1) es ++ mark (nest fs) (Closing Curly) ∷ []) (have (onto ns (entry_names es)) (x.map_like (keys_of (entry_meanings es))) fs)
   goes_entries no_entries ns fs f = (have ns (x.map_like (keys_of [])) fs, refl, refl, refl)
   goes_entries (entry at k t es) ns fs f =
       let c = mark (nest fs) (Closing Curly) ∷ [] in
-      let g = fresh_apart ns (names t) (entry_names es) f in
-      (want_colon ns [] k fs, refl, refl, (want ns (valued [] k ∷ fs), refl, refl,
-       subst (λ l. Goes (want ns (valued [] k ∷ fs)) ((marks (nest fs + 1) t ++ more_entries (nest fs + 1) es) ++ c) (have l (x.map_like (keys_of ((k, meaning t) ∷ entry_meanings es))) fs)) (sym (onto_append ns (names t) (entry_names es)))
-        (join_front (marks (nest fs + 1) t) (more_entries (nest fs + 1) es) c _ _ _ (goes t ns (valued [] k ∷ fs) g.0) (goes_further es (meaning t) k [] (onto ns (names t)) fs g.1))))
+      let g = fresh_apart ns (names t) (entry_names es) f in (
+        want_colon ns [] k fs,
+        refl,
+        refl,
+        (
+          want ns (valued [] k ∷ fs),
+          refl,
+          refl,
+          subst (λ l. Goes (want ns (valued [] k ∷ fs)) ((marks (nest fs + 1) t ++ more_entries (nest fs + 1) es) ++ c) (have l (x.map_like (keys_of ((k, meaning t) ∷ entry_meanings es))) fs)) (sym (onto_append ns (names t) (entry_names es)))
+              (join_front (marks (nest fs + 1) t) (more_entries (nest fs + 1) es) c _ _ _ (goes t ns (valued [] k ∷ fs) g.0) (goes_further es (meaning t) k [] (onto ns (names t)) fs g.1)),
+        ),
+      )
 
   pub goes_further : (es : Entries) (p : Pattern) (k : List ℕ) (ps : List (List ℕ × Pattern)) (ns : List (List ℕ)) (fs : Frames) → Fresh ns (entry_names es)
       → Goes (have ns p (valued ps k ∷ fs)) (more_entries (nest fs + 1) es ++ mark (nest fs) (Closing Curly) ∷ []) (have (onto ns (entry_names es)) (x.map_like (keys_of (ps ++ (k, p) ∷ entry_meanings es))) fs)
@@ -107,8 +118,21 @@ mutual
       let c = mark (nest fs) (Closing Curly) ∷ [] in
       let g = fresh_apart ns (names t) (entry_names es) f in
       let ps' = ps ++ (k, p) ∷ [] in
-      let ns' = onto ns (names t) in
-      (want_key ns ps' fs, refl, refl, (want_colon ns ps' k' fs, refl, refl, (want ns (valued ps' k' ∷ fs), refl, refl,
-       join_front (marks (nest fs + 1) t) (more_entries (nest fs + 1) es) c _ _ _ (goes t ns (valued ps' k' ∷ fs) g.0)
-        (subst (λ l. Goes (have ns' (meaning t) (valued ps' k' ∷ fs)) (more_entries (nest fs + 1) es ++ c) (have l (x.map_like (keys_of (ps ++ (k, p) ∷ (k', meaning t) ∷ entry_meanings es))) fs)) (sym (onto_append ns (names t) (entry_names es)))
-         (subst (λ l. Goes (have ns' (meaning t) (valued ps' k' ∷ fs)) (more_entries (nest fs + 1) es ++ c) (have (onto ns' (entry_names es)) (x.map_like (keys_of l)) fs)) (append_assoc ps ((k, p) ∷ []) ((k', meaning t) ∷ entry_meanings es)) (goes_further es (meaning t) k' ps' ns' fs g.1))))))
+      let ns' = onto ns (names t) in (
+        want_key ns ps' fs,
+        refl,
+        refl,
+        (
+          want_colon ns ps' k' fs,
+          refl,
+          refl,
+          (
+            want ns (valued ps' k' ∷ fs),
+            refl,
+            refl,
+            join_front (marks (nest fs + 1) t) (more_entries (nest fs + 1) es) c _ _ _ (goes t ns (valued ps' k' ∷ fs) g.0)
+                (subst (λ l. Goes (have ns' (meaning t) (valued ps' k' ∷ fs)) (more_entries (nest fs + 1) es ++ c) (have l (x.map_like (keys_of (ps ++ (k, p) ∷ (k', meaning t) ∷ entry_meanings es))) fs)) (sym (onto_append ns (names t) (entry_names es)))
+                (subst (λ l. Goes (have ns' (meaning t) (valued ps' k' ∷ fs)) (more_entries (nest fs + 1) es ++ c) (have (onto ns' (entry_names es)) (x.map_like (keys_of l)) fs)) (append_assoc ps ((k, p) ∷ []) ((k', meaning t) ∷ entry_meanings es)) (goes_further es (meaning t) k' ps' ns' fs g.1))),
+          ),
+        ),
+      )

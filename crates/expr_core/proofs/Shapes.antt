@@ -1,17 +1,16 @@
 -- What the reader of expressions holds, with its trees: what was read so far, and how it can be completed.
-use Rattle.std.proofs.Common.{◌≡◌, ℕ, ◌+◌, ◌<◌, ◌≤◌, List, [], ◌∷◌, ◌++◌, map, Bool, true, false, Option, Some, None, refl, sym, ap, ◌∙◌, subst, arith, append_assoc, append-nil}
+use Rattle.std.proofs.Common.{◌≡◌, ℕ, ◌+◌, ◌≤◌, List, [], ◌∷◌, ◌++◌, map, true, Option, None, refl, sym, ap, ◌∙◌, arith, append_assoc, append-nil}
 use Rattle.std.proofs.lemmas.List.{map-append}
 use Rattle.ast_core.specs.declared.operators.UnaryOp.{UnaryOp}
 use Rattle.ast_core.specs.declared.operators.BinaryOp.{BinaryOp}
 use Rattle.ast_core.specs.Syntax.{Expr}
-use Rattle.ast_core.specs.Syntax as x
-use Rattle.ast_core.specs.ExprView.{Part, expr_part, exprs_of, pairs_of, parts_of}
+use Rattle.ast_core.specs.ExprView.{Part, expr_part}
 use Rattle.expr_core.specs.declared.token.Bracket.{Bracket}
 use Rattle.expr_core.specs.declared.token.Bracket.TheVariants.{Round, Square, Curly}
-use Rattle.expr_core.specs.declared.token.Token.TheVariants.{Word, At, Dot, Operator, Pipe, Comma, Colon, If, DoColon, ElseColon, OpeningRound, CallOpening, OpeningSquare, IndexOpening, OpeningCurly, OpeningMap, Closing, Quote, PartOpening, PartClosing, QuoteEnd, Arrow}
+use Rattle.expr_core.specs.declared.token.Token.TheVariants.{Word, At, Dot, Operator, Pipe, Comma, If, DoColon, ElseColon, OpeningRound, CallOpening, OpeningSquare, IndexOpening, OpeningCurly, OpeningMap, Closing, Quote, PartOpening, PartClosing, QuoteEnd}
 use Rattle.expr_core.specs.Language.{Mark, mark}
-use Rattle.expr_core.specs.Functions.{call_with, unknown_call, earlier}
-use Rattle.expr_core.specs.Grammar.{binds, left_of, right_of, may_deny, Callee, callee_token, callee_at, callee_name, Key, word_key, text_key, key_text, Style, bare, inside, style_holds, Tree, call, piped, choice, choice_else, list, tuple, Trees, no_trees, tree, Parts, no_parts, part, Entries, no_entries, entry, holds, denies, Grouped, AllGrouped, PartsGrouped, EntriesGrouped, prefix_token, key_marks, if_head, deeper, marks, listed, more_listed, part_marks, entry_marks, more_entries, plain_parts, meaning, meanings, part_meanings, entry_meanings, unknown, unknown_item, unknown_part, unknown_entry}
+use Rattle.expr_core.specs.Functions.{earlier}
+use Rattle.expr_core.specs.Grammar.{binds, left_of, may_deny, Callee, callee_token, callee_at, callee_name, Key, key_text, Style, bare, inside, style_holds, Tree, call, piped, list, tuple, Trees, no_trees, tree, Parts, no_parts, part, Entries, no_entries, entry, holds, denies, Grouped, AllGrouped, PartsGrouped, EntriesGrouped, prefix_token, key_marks, if_head, deeper, marks, listed, more_listed, part_marks, entry_marks, more_entries, plain_parts, meaning, meanings, part_meanings, entry_meanings, unknown, unknown_item, unknown_part, unknown_entry}
 use Rattle.expr_core.specs.Machine.{Value, Opener, listing, tupling, calling, piping, Frame, Frames, operand, ahead, paren, indexed, items, putting, valued, test, inner_test, yes_of, no_of, State, want, have, want_assign, want_field, want_call, want_arguments, want_if, want_do, want_else, want_part, want_key, want_colon, want_quote, want_arrow, closed, finish, map_from, need}
 use Rattle.expr_core.specs.Machine as m
 use Rattle.expr_core.proofs.Tables.{right_le, earlier_none, earlier_assoc}

@@ -1,5 +1,5 @@
 -- What a reader does over tokens, and what is to be shown of it so that its outcomes are the right ones.
-use Rattle.std.proofs.Common.{◌≡◌, ℕ, ◌+◌, List, [], ◌∷◌, ◌++◌, map, Option, Some, None, refl, sym, ap, ◌∙◌, subst, append_assoc, append-nil}
+use Rattle.std.proofs.Common.{◌≡◌, ℕ, List, [], ◌∷◌, ◌++◌, Option, Some, sym, ap, ◌∙◌, subst, append_assoc, append-nil}
 use Rattle.std.specs.Prelude.{option_and_then}
 use Rattle.expr_core.specs.declared.token.Token.{Token}
 use Rattle.expr_core.specs.Language.{Mark, mark, Language, spelled_by}

@@ -1,12 +1,12 @@
 -- Answers to texts from outcomes of tokens.
-use Rattle.std.proofs.Common.{◌≡◌, ℕ, zero, suc, ◌+◌, ◌<◌, List, [], ◌∷◌, length, map, inl, inr, Option, Some, None, refl, sym, ap, ◌∙◌, subst, arith}
+use Rattle.std.proofs.Common.{◌≡◌, ℕ, zero, suc, ◌<◌, List, [], ◌∷◌, length, map, inl, inr, Some, refl, sym, subst, arith}
 use Rattle.std.specs.List.{slice_get}
 use Rattle.expr_core.specs.declared.fault.ExprKind.TheVariants as kind
 use Rattle.expr_core.specs.declared.token.Token.{Token}
 use Rattle.expr_core.specs.declared.token.Placed.{Placed}
 use Rattle.expr_core.specs.Tokens.{placed_tokens, left_open}
 use Rattle.expr_core.specs.Language.{Language, StrayAt, BadNumberAt, DeepAt, Ended}
-use Rattle.expr_core.specs.Answers.{tokens_of, StandsAt, AtToken, StrayEnd, OpenAt, OpenEnd, Refuses, byte_of}
+use Rattle.expr_core.specs.Answers.{tokens_of, AtToken, OpenAt, Refuses, byte_of}
 
 -- Where a token stands.
 pub record Stands (ps : List Placed) (n : ℕ) : Type 0 where

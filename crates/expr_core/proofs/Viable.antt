@@ -1,12 +1,12 @@
 -- Whatever the reader of expressions holds can be completed.
-use Rattle.std.proofs.Common.{◌≡◌, ℕ, pos, ◌+◌, ◌<◌, ◌≤◌, List, [], ◌∷◌, ◌++◌, Bool, true, false, codes, refl, sym, ap, ◌∙◌, subst, arith, append_assoc, append-nil}
+use Rattle.std.proofs.Common.{◌≡◌, ℕ, pos, ◌+◌, ◌≤◌, List, [], ◌∷◌, ◌++◌, codes, refl, sym, ap, ◌∙◌, subst, arith, append_assoc, append-nil}
 use Rattle.expr_core.specs.declared.token.Bracket.TheVariants.{Round, Square, Curly}
-use Rattle.expr_core.specs.declared.token.Token.TheVariants.{Number, Word, At, Dot, Pipe, Comma, Colon, Arrow, DoColon, ElseColon, OpeningRound, CallOpening, Closing, Quote, PartOpening, PartClosing, QuoteEnd, OpeningMap}
+use Rattle.expr_core.specs.declared.token.Token.TheVariants.{Number, Word, Comma, Colon, Arrow, DoColon, ElseColon, OpeningRound, CallOpening, Closing, Quote, PartOpening, PartClosing, QuoteEnd, OpeningMap}
 use Rattle.expr_core.specs.Language.{Mark, mark}
-use Rattle.expr_core.specs.Grammar.{binds, left_of, right_of, Callee, plain, callee_token, Key, word_key, text_key, Style, bare, inside, Tree, number, text, assign, parens, before, between, field, index, call, piped, map_of, choice, choice_else, Trees, no_trees, Parts, no_parts, part, Entries, no_entries, holds, Grouped, if_tail, deeper, key_marks, marks, part_marks, entry_marks, expressions}
+use Rattle.expr_core.specs.Grammar.{plain, Key, word_key, text_key, bare, inside, Tree, number, text, assign, parens, before, between, field, index, call, piped, map_of, choice, choice_else, no_trees, holds, Grouped, if_tail, deeper, key_marks, marks, part_marks, expressions}
 use Rattle.expr_core.specs.Machine.{need}
 use Rattle.expr_core.proofs.Steps.{Completes}
-use Rattle.expr_core.proofs.Shapes.{Head, of_list, of_tuple, of_call, of_pipe, TextPart, MapEntry, Piece, left, front, open_paren, open_index, open_items, open_part, open_entry, open_test, open_inner, open_yes, open_no, Shape, wants, has, wants_assign, wants_field, wants_call, wants_arguments, wants_if, wants_do, wants_else, wants_part, wants_key, wants_colon, wants_quote, wants_arrow, FitsStyle, style_need, seen, nest, with_commas, named, headed, parts_shown, entries_shown, to_part, to_key, to_do, to_else, shown, told, PartsFine, EntriesFine, FineHead, IsCall, Fine, FineShape, trees_of, made, bracket, need_le, all_grouped, item_marks, made_marks, made_grouped, made_fits, parts_from, parts_grouped, parts_fine, parts_marks, parts_further, entries_from, entries_grouped, entries_marks}
+use Rattle.expr_core.proofs.Shapes.{Head, of_list, of_tuple, of_call, of_pipe, TextPart, MapEntry, Piece, left, front, open_paren, open_index, open_items, open_part, open_entry, open_test, open_inner, open_yes, open_no, Shape, wants, has, wants_assign, wants_field, wants_call, wants_arguments, wants_if, wants_do, wants_else, wants_part, wants_key, wants_colon, wants_quote, wants_arrow, style_need, seen, nest, with_commas, named, headed, parts_shown, entries_shown, to_key, shown, told, PartsFine, EntriesFine, FineHead, IsCall, Fine, FineShape, trees_of, made, bracket, need_le, all_grouped, item_marks, made_marks, made_grouped, made_fits, parts_from, parts_grouped, parts_fine, parts_marks, parts_further, entries_from, entries_grouped, entries_marks}
 
 -- something that stands everywhere, and a name
 abbrev one : Tree
@@ -76,13 +76,13 @@ plug_marks (open_no s u y ∷ ps) t = plug_marks ps (choice_else s u y t) ∙ si
 plug_marks (open_items a ts ∷ ps) t =
     let us = trees_of (ts ++ t ∷ []) in
     let e : marks (nest ps) (made a us) ≡ headed (nest ps) a ++ ((with_commas (nest ps + 1) ts ++ marks (nest ps + 1) t) ++ mark (nest ps) (Closing (bracket a)) ∷ [])
-      = made_marks a us (nest ps) ∙ ap (λ l. headed (nest ps) a ++ (l ++ mark (nest ps) (Closing (bracket a)) ∷ [])) (item_marks ts t (nest ps + 1)) in
+    = made_marks a us (nest ps) ∙ ap (λ l. headed (nest ps) a ++ (l ++ mark (nest ps) (Closing (bracket a)) ∷ [])) (item_marks ts t (nest ps + 1)) in
     plug_marks ps (made a us) ∙ ap (λ l. (shown ps ++ l) ++ rest ps) e ∙ simp append_assoc
 plug_marks (open_part s qs ∷ ps) t =
     let n = nest ps in
     let rs = qs ++ (t, []) ∷ [] in
     let e : part_marks n (parts_from rs) ≡ parts_shown n qs ++ mark (n + 1) PartOpening ∷ (marks (n + 1) t ++ mark n (PartClosing []) ∷ [])
-      = parts_marks rs n ∙ parts_further qs t [] n in
+    = parts_marks rs n ∙ parts_further qs t [] n in
     plug_marks ps (text s (parts_from rs)) ∙ ap (λ l. (shown ps ++ mark n (Quote s) ∷ (l ++ mark n QuoteEnd ∷ [])) ++ rest ps) e ∙ simp append_assoc
 plug_marks (open_entry es k ∷ ps) t =
     let n = nest ps in
@@ -93,7 +93,7 @@ with_operand ps t ms more f g h e = record {
   tree = plugged ps t;
   more = more ++ rest ps;
   lawful = plug_grouped ps t f g h;
-  same = plug_marks ps t ∙ ap (λ l. l ++ rest ps) e ∙ append_assoc ms more (rest ps)
+  same = plug_marks ps t ∙ ap (λ l. l ++ rest ps) e ∙ append_assoc ms more (rest ps);
 }
 
 viable_call : (h : Head) (ps : List Piece) → IsCall h → FineHead h ps → Fine ps → Completes expressions (shown ps ++ named (nest ps) h)
@@ -117,7 +117,7 @@ viable_entry es k ps ms more g f e =
     let c = mark (n + 1) (Number (pos 1)) ∷ mark n (Closing Curly) ∷ [] in
     let t = map_of (entries_from (es ++ (k, one) ∷ [])) in
     let a : marks n t ≡ mark (n + 1) OpeningMap ∷ ((entries_shown (n + 1) es ++ ((ms ++ more) ++ marks (n + 1) one)) ++ mark n (Closing Curly) ∷ [])
-      = ap (λ l. mark (n + 1) OpeningMap ∷ (l ++ mark n (Closing Curly) ∷ [])) (entries_marks es k one (n + 1) ∙ ap (λ l. entries_shown (n + 1) es ++ (l ++ marks (n + 1) one)) e) in
+    = ap (λ l. mark (n + 1) OpeningMap ∷ (l ++ mark n (Closing Curly) ∷ [])) (entries_marks es k one (n + 1) ∙ ap (λ l. entries_shown (n + 1) es ++ (l ++ marks (n + 1) one)) e) in
     with_operand ps t (shown ps ++ (to_key n es ++ ms)) (more ++ c) f (entries_grouped es k one g (omega arith) tt) (omega (arith, need_le ps)) (ap (λ l. shown ps ++ l) a ∙ simp append_assoc)
 
 pub viable : (s : Shape) → FineShape s → Completes expressions (told s)
