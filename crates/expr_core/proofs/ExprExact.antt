@@ -3,6 +3,7 @@ use Rattle.std.proofs.Common.{◌≡◌, ℕ, List, [], ◌∷◌, ◌++◌, len
 use Rattle.ast_core.specs.Syntax.{Expr}
 use Rattle.expr_core.specs.declared.token.Token.{Token}
 use Rattle.expr_core.specs.declared.token.Placed.{Placed}
+use Rattle.expr_core.specs.declared.token.Opened.{Opened}
 use Rattle.expr_core.specs.Tokens.{left_open}
 use Rattle.expr_core.specs.Language.{Spells, Ended}
 use Rattle.expr_core.specs.Outcome.{Outcome, done, stray, bad_number, too_deep, ended, Answers, outcome_of}
@@ -83,7 +84,7 @@ by_unknown : (text : List ℕ) (e : Expr) (u : Option ℕ) → Spells expression
 by_unknown text e None s = s
 by_unknown text e (Some at) s = (e, s)
 
-at_the_end : (text : List ℕ) (ps : List Placed) → left_open text ≡ ps → Ended expressions (tokens_of text) → AnswersExpr text (at_text_end ps (length text))
+at_the_end : (text : List ℕ) (ps : List Opened) → left_open text ≡ ps → Ended expressions (tokens_of text) → AnswersExpr text (at_text_end ps (length text))
 at_the_end text [] h e = stray_end expressions text e h
 at_the_end text (p ∷ ps) h e = open_end expressions text p ps e h
 

@@ -11,6 +11,7 @@ use Rattle.expr_core.specs.declared.token.Bracket.TheVariants.{Round, Square, Cu
 use Rattle.expr_core.specs.declared.token.Token.{Token}
 use Rattle.expr_core.specs.declared.token.Token.TheVariants.{Number, Word, Atom, Nil, Boolean, Operator, Comma, Colon, OpeningSquare, OpeningCurly, OpeningMap, Closing, Quote, QuoteEnd}
 use Rattle.expr_core.specs.declared.token.Placed.{Placed}
+use Rattle.expr_core.specs.declared.token.Opened.{Opened}
 use Rattle.expr_core.specs.Tokens.{left_open}
 use Rattle.expr_core.specs.Language.{Mark, mark, Spells, Ended}
 use Rattle.expr_core.specs.Outcome.{Outcome, done, stray, bad_number, too_deep, ended, Answers, outcome_of}
@@ -253,7 +254,7 @@ pattern_proof = record {
 pub pattern_outcome : (ts : List Token) → Answers patterns ts (outcome_of pattern_reader ts)
 pattern_outcome ts = exact patterns pattern_reader pattern_proof ts
 
-at_the_end : (bytes : List ℕ) (ps : List Placed) → left_open bytes ≡ ps → Ended patterns (tokens_of bytes) → AnswersPattern bytes (at_text_end ps (length bytes))
+at_the_end : (bytes : List ℕ) (ps : List Opened) → left_open bytes ≡ ps → Ended patterns (tokens_of bytes) → AnswersPattern bytes (at_text_end ps (length bytes))
 at_the_end bytes [] h e = stray_end patterns bytes e h
 at_the_end bytes (p ∷ ps) h e = open_end patterns bytes p ps e h
 

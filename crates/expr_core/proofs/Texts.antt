@@ -4,6 +4,7 @@ use Rattle.std.specs.List.{slice_get}
 use Rattle.expr_core.specs.declared.fault.ExprKind.TheVariants as kind
 use Rattle.expr_core.specs.declared.token.Token.{Token}
 use Rattle.expr_core.specs.declared.token.Placed.{Placed}
+use Rattle.expr_core.specs.declared.token.Opened.{Opened}
 use Rattle.expr_core.specs.Tokens.{placed_tokens, left_open}
 use Rattle.expr_core.specs.Language.{Language, StrayAt, BadNumberAt, DeepAt, Ended}
 use Rattle.expr_core.specs.Answers.{tokens_of, AtToken, OpenAt, Refuses, byte_of}
@@ -36,5 +37,5 @@ deep_token L text n f = at_token text (DeepAt L) n f.within f
 pub stray_end : (L : Language) (text : List ℕ) → Ended L (tokens_of text) → left_open text ≡ [] → Refuses L text (length text) kind.Stray
 stray_end L text e h = inr (record { ends = e; none_open = h; place = refl })
 
-pub open_end : (L : Language) (text : List ℕ) (p : Placed) (ps : List Placed) → Ended L (tokens_of text) → left_open text ≡ p ∷ ps → Refuses L text p.at kind.Unclosed
+pub open_end : (L : Language) (text : List ℕ) (p : Opened) (ps : List Opened) → Ended L (tokens_of text) → left_open text ≡ p ∷ ps → Refuses L text p.at kind.Unclosed
 open_end L text p ps e h = record { ends = e; opening = subst (λ l. OpenAt l p.at) (sym h) refl }

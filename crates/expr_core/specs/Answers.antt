@@ -6,6 +6,7 @@ use Rattle.expr_core.specs.declared.fault.ExprKind.{ExprKind}
 use Rattle.expr_core.specs.declared.fault.ExprKind.TheVariants as kind
 use Rattle.expr_core.specs.declared.token.Token.{Token}
 use Rattle.expr_core.specs.declared.token.Placed.{Placed}
+use Rattle.expr_core.specs.declared.token.Opened.{Opened}
 use Rattle.expr_core.specs.Tokens.{placed_tokens, left_open}
 use Rattle.expr_core.specs.Language.{Language, Spells, StrayAt, BadNumberAt, DeepAt, Ended}
 use Rattle.expr_core.specs.Grammar.{meant, expressions}
@@ -38,9 +39,9 @@ pub record StrayEnd (L : Language) (text : List ℕ) (at : ℕ) : Type 0 where
   pub place : length text ≡ at
 
 -- the innermost opening stands at this byte
-abbrev pub OpenAt : List Placed → ℕ → Type 0
+abbrev pub OpenAt : List Opened → ℕ → Type 0
 OpenAt [] at = ⊥
-OpenAt (p ∷ ps) at = p.at ≡ at
+OpenAt (o ∷ os) at = o.at ≡ at
 
 -- The text ends, and this opening is not closed.
 pub record OpenEnd (L : Language) (text : List ℕ) (at : ℕ) : Type 0 where
@@ -100,9 +101,9 @@ byte_of (p ∷ ps) zero = p.at
 byte_of (p ∷ ps) (suc n) = byte_of ps n
 
 -- more was needed where a text of this length ends
-abbrev pub at_text_end : {A : Type 0} → List Placed → ℕ → Result A Refusal
+abbrev pub at_text_end : {A : Type 0} → List Opened → ℕ → Result A Refusal
 at_text_end [] size = refused size kind.Stray
-at_text_end (p ∷ ps) size = refused p.at kind.Unclosed
+at_text_end (o ∷ os) size = refused o.at kind.Unclosed
 
 -- the answer of a text by what becomes of its tokens
 abbrev pub answer_by : {A B : Type 0} → (A → Result B Refusal) → List ℕ → Outcome A → Result B Refusal

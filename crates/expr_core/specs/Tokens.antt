@@ -1,6 +1,7 @@
 -- The tokens of a text: from left to right, each as long as it can be.
 use Rattle.std.specs.Prelude.{ℕ, ◌+◌, ◌-◌, ◌*◌, zero, suc, pos, List, [], ◌∷◌, ◌++◌, length, drop, take_while, codes, Bool, true, false, not, ◌&&◌, ◌||◌, nat_eq, nat_le, Option, Some, None, if◌then◌else◌}
 use Rattle.std.specs.List.{starts_with}
+use Rattle.std.specs.Option.{is_some}
 use Rattle.std.specs.Char.{is_ascii_digit, is_ascii_uppercase, is_ascii_lowercase, is_ascii_alphanumeric}
 use Rattle.std.specs.Str.{bytes_eq}
 use Rattle.ast_core.specs.declared.operators.BinaryOp.TheVariants as op
@@ -8,6 +9,12 @@ use Rattle.expr_core.specs.declared.token.Bracket.TheVariants.{Round, Square, Cu
 use Rattle.expr_core.specs.declared.token.Token.{Token}
 use Rattle.expr_core.specs.declared.token.Token.TheVariants.{Number, BadNumber, Word, Function, Atom, Nil, Boolean, At, Dot, Operator, Bang, NotWord, Pipe, Comma, Colon, Arrow, If, DoColon, ElseColon, OpeningRound, CallOpening, OpeningSquare, IndexOpening, OpeningCurly, OpeningMap, Closing, Quote, PartOpening, PartClosing, QuoteEnd, Foreign}
 use Rattle.expr_core.specs.declared.token.Placed.{Placed}
+use Rattle.expr_core.specs.declared.token.Cut.{Cut}
+use Rattle.expr_core.specs.declared.token.Piece.{Piece}
+use Rattle.expr_core.specs.declared.token.Near.{Near}
+use Rattle.expr_core.specs.declared.token.Opened.{Opened}
+use Rattle.expr_core.specs.declared.token.Opening.{Opening}
+use Rattle.expr_core.specs.declared.token.Opening.TheVariants.{Quoted, Parted, Bracketed}
 
 -- Characters.
 
@@ -43,27 +50,26 @@ reserved =
     ∷ (codes "nil", Nil) ∷ (codes "true", Boolean true) ∷ (codes "false", Boolean false) ∷ (codes "if", If)
     ∷ (codes "do", Foreign) ∷ (codes "else", Foreign) ∷ (codes "end", Foreign) ∷ []
 
--- the signs, the longer before the shorter
-abbrev pub signs : List Row
-signs =
-    (codes "||", Operator op.OrElse) ∷ (codes "&&", Operator op.AndAlso) ∷ (codes "==", Operator op.Equal) ∷ (codes "!=", Operator op.Unequal)
-    ∷ (codes "<=", Operator op.AtMost) ∷ (codes ">=", Operator op.AtLeast) ∷ (codes "++", Operator op.Append) ∷ (codes "<>", Operator op.Concat)
-    ∷ (codes "|>", Pipe) ∷ (codes "=>", Arrow) ∷ (codes "%{", OpeningMap)
-    ∷ (codes "<", Operator op.Less) ∷ (codes ">", Operator op.Greater) ∷ (codes "+", Operator op.Plus) ∷ (codes "-", Operator op.Minus) ∷ (codes "*", Operator op.Times)
-    ∷ (codes "!", Bang) ∷ (codes "@", At) ∷ (codes ".", Dot) ∷ (codes ",", Comma) ∷ (codes ":", Colon)
-    ∷ (codes "(", OpeningRound) ∷ (codes "[", OpeningSquare) ∷ (codes "{", OpeningCurly)
-    ∷ (codes ")", Closing Round) ∷ (codes "]", Closing Square) ∷ (codes "}", Closing Curly) ∷ []
+-- the signs of two characters, which come before those of one
+abbrev pub long_signs : List Row
+long_signs =
+  (codes "||", Operator op.OrElse) ∷ (codes "&&", Operator op.AndAlso) ∷ (codes "==", Operator op.Equal) ∷ (codes "!=", Operator op.Unequal)
+  ∷ (codes "<=", Operator op.AtMost) ∷ (codes ">=", Operator op.AtLeast) ∷ (codes "++", Operator op.Append) ∷ (codes "<>", Operator op.Concat)
+  ∷ (codes "|>", Pipe) ∷ (codes "=>", Arrow) ∷ (codes "%{", OpeningMap) ∷ []
 
--- the first row with this property
-abbrev pub row_where : (List ℕ → Bool) → List Row → Option Row
-row_where p [] = None
-row_where p (r ∷ rs) = if p r.0 then Some r else row_where p rs
+abbrev pub short_signs : List Row
+short_signs =
+  (codes "<", Operator op.Less) ∷ (codes ">", Operator op.Greater) ∷ (codes "+", Operator op.Plus) ∷ (codes "-", Operator op.Minus) ∷ (codes "*", Operator op.Times)
+  ∷ (codes "!", Bang) ∷ (codes "@", At) ∷ (codes ".", Dot) ∷ (codes ",", Comma) ∷ (codes ":", Colon)
+  ∷ (codes "(", OpeningRound) ∷ (codes "[", OpeningSquare) ∷ (codes "{", OpeningCurly)
+  ∷ (codes ")", Closing Round) ∷ (codes "]", Closing Square) ∷ (codes "}", Closing Curly) ∷ []
 
--- A token at the beginning of a text, and how many bytes it has. White space is none, nor is a `\` that is a text's last character.
-pub record Cut : Type 0 where
-  pub token : Option Token
-  pub size : ℕ
+-- the token of the first row with this property
+abbrev pub token_where : (List ℕ → Bool) → List Row → Option Token
+token_where p [] = None
+token_where p (r ∷ rs) = if p r.0 then Some r.1 else token_where p rs
 
+-- A cut is a token at the beginning of a text, and how many bytes it has. White space is none, nor is a `\` that is a text's last character.
 abbrev pub cut : Token → ℕ → Cut
 cut t n = record { token = Some t; size = n }
 
@@ -76,12 +82,12 @@ passed = record { token = None; size = 1 }
 abbrev pub name_of : List ℕ → List ℕ
 name_of bs = if first_is begins_name bs then take_while in_name bs else []
 
+-- what a reserved word is
+abbrev pub reserved_token : List ℕ → Option Token
+reserved_token name = token_where (bytes_eq name) reserved
+
 abbrev pub is_reserved : List ℕ → Bool
-is_reserved name = is_row (row_where (bytes_eq name) reserved)
-  where
-    is_row : Option Row → Bool
-    is_row None = false
-    is_row (Some r) = true
+is_reserved name = is_some (reserved_token name)
 
 -- the `?` or `!` behind a name that makes it the name of a call, since `(` follows at once
 abbrev pub call_mark : List ℕ → List ℕ
@@ -98,12 +104,12 @@ reserved_word t name rest =
     else if bytes_eq name (codes "else") && begins (codes ":") rest then cut ElseColon 5
     else cut t (length name)
 
-abbrev pub word_by : Option Row → ℕ → List ℕ → List ℕ → Cut
+abbrev pub word_by : Option Token → ℕ → List ℕ → List ℕ → Cut
 word_by None at name rest = word_or_function at name (call_mark rest)
-word_by (Some r) at name rest = reserved_word r.1 name rest
+word_by (Some t) at name rest = reserved_word t name rest
 
 abbrev pub word : ℕ → List ℕ → Cut
-word at bs = let name = name_of bs in word_by (row_where (bytes_eq name) reserved) at name (drop (length name) bs)
+word at bs = let name = name_of bs in word_by (reserved_token name) at name (drop (length name) bs)
 
 -- words that begin with upper-case letters, with dots between them
 abbrev pub module_of : List ℕ → List ℕ
@@ -162,16 +168,8 @@ escaped c = if nat_eq c 34 || (nat_eq c 92 || nat_eq c 35) then Some c else if n
 abbrev pub is_escape : List ℕ → Bool
 is_escape [] = false
 is_escape (c ∷ cs) = is_some (escaped c)
-  where
-    is_some : Option ℕ → Bool
-    is_some None = false
-    is_some (Some d) = true
 
--- What characters of a text stand for, and how many bytes they have.
-pub record Piece : Type 0 where
-  pub text : List ℕ
-  pub size : ℕ
-
+-- A piece tells what characters of a text stand for, and how many bytes they have.
 abbrev pub no_piece : Piece
 no_piece = record { text = []; size = 0 }
 
@@ -216,59 +214,74 @@ ends_name (Some (Word at name)) = true
 ends_name (Some (Function at name)) = true
 ends_name _ = false
 
+-- what ends directly before a place
+abbrev pub near_of : Option Token → Near
+near_of last = record { value = ends_value last; name = ends_name last }
+
+-- what a token opens
+abbrev pub opening_of : Token → Option Opening
+opening_of OpeningRound = Some Bracketed
+opening_of CallOpening = Some Bracketed
+opening_of OpeningSquare = Some Bracketed
+opening_of IndexOpening = Some Bracketed
+opening_of OpeningCurly = Some Bracketed
+opening_of OpeningMap = Some Bracketed
+opening_of (Quote t) = Some Quoted
+opening_of PartOpening = Some Parted
+opening_of t = None
+
+-- whether it closes the innermost opening
+abbrev pub closes : Token → Bool
+closes (Closing b) = true
+closes (PartClosing t) = true
+closes QuoteEnd = true
+closes t = false
+
 -- the openings that are not closed, the innermost first
-abbrev pub opened : List Placed → Placed → List Placed
-opened opens p = by_token p.token opens
-  where
-    behind : List Placed → List Placed
-    behind [] = []
-    behind (o ∷ os) = os
+abbrev pub opened_or : Option Opening → Bool → ℕ → List Opened → List Opened
+opened_or (Some kind) b at os = record { at = at; kind = kind } ∷ os
+opened_or None false at os = os
+opened_or None true at [] = []
+opened_or None true at (o ∷ os) = os
 
-    by_token : Token → List Placed → List Placed
-    by_token OpeningRound os = p ∷ os
-    by_token CallOpening os = p ∷ os
-    by_token OpeningSquare os = p ∷ os
-    by_token IndexOpening os = p ∷ os
-    by_token OpeningCurly os = p ∷ os
-    by_token OpeningMap os = p ∷ os
-    by_token (Quote t) os = p ∷ os
-    by_token PartOpening os = p ∷ os
-    by_token (Closing b) os = behind os
-    by_token (PartClosing t) os = behind os
-    by_token QuoteEnd os = behind os
-    by_token t os = os
+abbrev pub opened : List Opened → Placed → List Opened
+opened os p = opened_or (opening_of p.token) (closes p.token) p.at os
 
-abbrev pub in_text : List Placed → Bool
+abbrev pub is_quoted : Opening → Bool
+is_quoted Quoted = true
+is_quoted o = false
+
+abbrev pub is_parted : Opening → Bool
+is_parted Parted = true
+is_parted o = false
+
+abbrev pub in_text : List Opened → Bool
 in_text [] = false
-in_text (o ∷ os) = is_quote o.token
-  where
-    is_quote : Token → Bool
-    is_quote (Quote t) = true
-    is_quote t = false
+in_text (o ∷ os) = is_quoted o.kind
 
-abbrev pub in_part : List Placed → Bool
+abbrev pub in_part : List Opened → Bool
 in_part [] = false
-in_part (o ∷ os) = is_part o.token
-  where
-    is_part : Token → Bool
-    is_part PartOpening = true
-    is_part t = false
+in_part (o ∷ os) = is_parted o.kind
 
--- a sign by what stands directly before it, and by the innermost opening
-abbrev pub sign_token : Option Token → List Placed → Token → List ℕ → Cut
-sign_token last os OpeningRound rest = cut (if ends_name last then CallOpening else OpeningRound) 1
-sign_token last os OpeningSquare rest = cut (if ends_value last then IndexOpening else OpeningSquare) 1
-sign_token last os Dot rest = cut (if ends_value last then Dot else Foreign) 1
-sign_token last os (Closing Curly) rest = if in_part os then with_piece PartClosing rest else cut (Closing Curly) 1
-sign_token last os Colon rest = colon rest
-sign_token last os t rest = cut t 1
+-- a sign by what ends directly before it, and by whether a part of a text is the innermost opening
+abbrev pub sign_token : Near → Bool → Token → List ℕ → Cut
+sign_token near part OpeningRound rest = cut (if near.name then CallOpening else OpeningRound) 1
+sign_token near part OpeningSquare rest = cut (if near.value then IndexOpening else OpeningSquare) 1
+sign_token near part Dot rest = cut (if near.value then Dot else Foreign) 1
+sign_token near part (Closing Curly) rest = if part then with_piece PartClosing rest else cut (Closing Curly) 1
+sign_token near part Colon rest = colon rest
+sign_token near part t rest = cut t 1
 
-abbrev pub sign_by : Option Row → Option Token → List Placed → List ℕ → Cut
-sign_by None last os bs = cut Foreign 1
-sign_by (Some r) last os bs = if nat_eq (length r.0) 1 then sign_token last os r.1 (drop 1 bs) else cut r.1 (length r.0)
+abbrev pub short_by : Option Token → Near → Bool → List ℕ → Cut
+short_by None near part bs = cut Foreign 1
+short_by (Some t) near part bs = sign_token near part t (drop 1 bs)
 
-abbrev pub sign : Option Token → List Placed → List ℕ → Cut
-sign last os bs = sign_by (row_where (λ s. begins s bs) signs) last os bs
+abbrev pub long_by : Option Token → Near → Bool → List ℕ → Cut
+long_by None near part bs = short_by (token_where (λ s. begins s bs) short_signs) near part bs
+long_by (Some t) near part bs = cut t 2
+
+abbrev pub sign : Near → Bool → List ℕ → Cut
+sign near part bs = long_by (token_where (λ s. begins s bs) long_signs) near part bs
 
 -- The tokens.
 
@@ -292,39 +305,39 @@ beginning b =
     else if is_ascii_digit b then digit else if nat_eq b 34 then quote else other
 
 -- what a text begins with, by its first character
-abbrev pub token_by : Beginning → ℕ → Option Token → List Placed → List ℕ → Cut
-token_by white at last os bs = passed
-token_by lower at last os bs = word at bs
-token_by upper at last os bs = module_word at bs
-token_by digit at last os bs = number bs
-token_by quote at last os bs = with_piece Quote (drop 1 bs)
-token_by other at last os bs = sign last os bs
+abbrev pub token_by : Beginning → ℕ → Near → Bool → List ℕ → Cut
+token_by white at near part bs = passed
+token_by lower at near part bs = word at bs
+token_by upper at near part bs = module_word at bs
+token_by digit at near part bs = number bs
+token_by quote at near part bs = with_piece Quote (drop 1 bs)
+token_by other at near part bs = sign near part bs
 
-abbrev pub first_token : Bool → ℕ → Option Token → List Placed → ℕ → List ℕ → Cut
-first_token true at last os b bs = behind_piece (b ∷ bs)
-first_token false at last os b bs = token_by (beginning b) at last os (b ∷ bs)
+abbrev pub first_token : Bool → ℕ → Near → Bool → ℕ → List ℕ → Cut
+first_token true at near part b bs = behind_piece (b ∷ bs)
+first_token false at near part b bs = token_by (beginning b) at near part (b ∷ bs)
 
 abbrev pub placed : ℕ → Option Token → List Placed
 placed at None = []
 placed at (Some t) = record { at = at; token = t } ∷ []
 
-abbrev pub opened_by : List Placed → List Placed → List Placed
+abbrev pub opened_by : List Opened → List Placed → List Opened
 opened_by os [] = os
 opened_by os (p ∷ ps) = opened_by (opened os p) ps
 
--- the tokens from a place on: what stands directly before it, what is open there, and how many bytes of the last token are still to come
-abbrev pub tokens_from : ℕ → Option Token → List Placed → ℕ → List ℕ → List Placed
-tokens_from at last os n [] = []
-tokens_from at last os (suc n) (b ∷ bs) = tokens_from (at + 1) last os n bs
-tokens_from at last os zero (b ∷ bs) =
-    let c = first_token (in_text os) at last os b bs in
-    let found = placed at c.token in
-    found ++ tokens_from (at + 1) c.token (opened_by os found) (c.size - 1) bs
+-- the tokens from a place on: what ends directly before it, what is open there, and how many bytes of the last token are still to come
+abbrev pub tokens_from : ℕ → Near → List Opened → ℕ → List ℕ → List Placed
+tokens_from at near os n [] = []
+tokens_from at near os (suc n) (b ∷ bs) = tokens_from (at + 1) near os n bs
+tokens_from at near os zero (b ∷ bs) =
+  let c = first_token (in_text os) at near (in_part os) b bs in
+  let found = placed at c.token in
+  found ++ tokens_from (at + 1) (near_of c.token) (opened_by os found) (c.size - 1) bs
 
 -- the tokens of a text
 abbrev pub placed_tokens : List ℕ → List Placed
-placed_tokens text = tokens_from 0 None [] 0 text
+placed_tokens text = tokens_from 0 (near_of None) [] 0 text
 
 -- the openings that a text ends without closing, the innermost first
-abbrev pub left_open : List ℕ → List Placed
+abbrev pub left_open : List ℕ → List Opened
 left_open text = opened_by [] (placed_tokens text)

@@ -90,3 +90,44 @@ pub struct Placed {
     pub at: usize,
     pub token: Token,
 }
+
+/// What a token opens.
+#[derive(Clone, Copy, Debug, PartialEq, Eq)]
+pub enum Opening {
+    /// A text.
+    Quoted,
+    /// A part of a text.
+    Parted,
+    /// A bracket or a parenthesis.
+    Bracketed,
+}
+
+/// An opening that is not closed, and its byte.
+#[derive(Clone, Copy, Debug, PartialEq, Eq)]
+pub struct Opened {
+    pub at: usize,
+    pub kind: Opening,
+}
+
+/// What ends directly before a place.
+#[derive(Clone, Copy, Debug, PartialEq, Eq)]
+pub(crate) struct Near {
+    /// Whether a value does.
+    pub value: bool,
+    /// Whether what may be the name of a call does.
+    pub name: bool,
+}
+
+/// What a text begins with: a token, or none where that is passed over; and how many bytes it has.
+#[derive(Debug, Drop)]
+pub(crate) struct Cut {
+    pub token: Option<Token>,
+    pub size: usize,
+}
+
+/// What some characters of a text stand for, and how many bytes they have.
+#[derive(Debug, Drop)]
+pub(crate) struct Piece {
+    pub text: Text,
+    pub size: usize,
+}
