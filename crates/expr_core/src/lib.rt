@@ -1,6 +1,7 @@
 //! The reader of expressions and patterns.
 #![tactic(auto)]
 
+mod byte;
 mod fault;
 mod token;
 
