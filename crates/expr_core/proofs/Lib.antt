@@ -14,3 +14,4 @@ pub mod ExprExact
 pub mod PatternGoes
 pub mod PatternShapes
 pub mod PatternExact
+pub mod Lexes

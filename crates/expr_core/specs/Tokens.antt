@@ -112,9 +112,13 @@ abbrev pub word : ℕ → List ℕ → Cut
 word at bs = let name = name_of bs in word_by (reserved_token name) at name (drop (length name) bs)
 
 -- words that begin with upper-case letters, with dots between them
+abbrev pub module_goes_on : List ℕ → Bool
+module_goes_on [] = false
+module_goes_on (b ∷ bs) = in_name b || (nat_eq b 46 && first_is is_ascii_uppercase bs)
+
 abbrev pub module_of : List ℕ → List ℕ
 module_of [] = []
-module_of (b ∷ bs) = if in_name b || (nat_eq b 46 && first_is is_ascii_uppercase bs) then b ∷ module_of bs else []
+module_of (b ∷ bs) = if module_goes_on (b ∷ bs) then b ∷ module_of bs else []
 
 -- a module, with a dot and a name behind it the name of a call
 abbrev pub module_word : ℕ → List ℕ → Cut
@@ -129,20 +133,32 @@ module_word at bs =
 -- Numbers.
 
 -- digits, with single `_` between two of them
+abbrev pub digits_go_on : List ℕ → Bool
+digits_go_on [] = false
+digits_go_on (b ∷ bs) = is_ascii_digit b || (nat_eq b 95 && first_is is_ascii_digit bs)
+
 abbrev pub digits_of : List ℕ → List ℕ
 digits_of [] = []
-digits_of (b ∷ bs) = if is_ascii_digit b || (nat_eq b 95 && first_is is_ascii_digit bs) then b ∷ digits_of bs else []
+digits_of (b ∷ bs) = if digits_go_on (b ∷ bs) then b ∷ digits_of bs else []
 
--- the number so far, with these digits behind it
+-- the number so far, with one more character, and with all of these
+abbrev pub value_with : ℕ → ℕ → ℕ
+value_with n b = if is_ascii_digit b then n * 10 + (b - 48) else n
+
 abbrev pub value_of : ℕ → List ℕ → ℕ
 value_of n [] = n
-value_of n (b ∷ bs) = value_of (if is_ascii_digit b then n * 10 + (b - 48) else n) bs
+value_of n (b ∷ bs) = value_of (value_with n b) bs
+
+-- a number that is not too large
+abbrev pub fitting : ℕ → Option ℕ
+fitting n = if nat_le n 9223372036854775807 then Some n else None
+
+abbrev pub number_token : Option ℕ → Token
+number_token None = BadNumber
+number_token (Some n) = Number (pos n)
 
 abbrev pub number : List ℕ → Cut
-number bs =
-    let digits = digits_of bs in
-    let n = value_of 0 digits in
-    cut (if nat_le n 9223372036854775807 then Number (pos n) else BadNumber) (length digits)
+number bs = let digits = digits_of bs in cut (number_token (fitting (value_of 0 digits))) (length digits)
 
 -- Atoms.
 

@@ -3,6 +3,7 @@
 
 mod byte;
 mod fault;
+mod number;
 mod token;
 
 pub use fault::{ExprFault, ExprKind};
