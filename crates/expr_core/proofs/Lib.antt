@@ -15,3 +15,4 @@ pub mod PatternGoes
 pub mod PatternShapes
 pub mod PatternExact
 pub mod Lexes
+pub mod Fronts

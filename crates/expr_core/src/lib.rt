@@ -5,6 +5,7 @@ mod byte;
 mod fault;
 mod number;
 mod token;
+mod word;
 
 pub use fault::{ExprFault, ExprKind};
 pub use token::{Bracket, Placed, Token};

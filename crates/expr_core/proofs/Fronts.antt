@@ -1,0 +1,135 @@
+-- Names, modules and marks are ASCII fronts of the text that they stand in.
+use Rattle.std.proofs.Common.{◌≡◌, ℕ, zero, suc, ◌+◌, ◌-◌, ◌<◌, ◌≤◌, List, [], ◌∷◌, ◌++◌, length, take, drop, get_or, Bool, true, false, not, ◌&&◌, ◌||◌, Option, Some, None, codes, refl, sym, ap, ◌∙◌, subst, arith, append_assoc, length-append}
+use Rattle.std.specs.Prelude.{nat_eq, nat_le, if◌then◌else◌}
+use Rattle.std.specs.Prelude.{cond}
+use Rattle.std.specs.List.{prefix_len, starts_with}
+use Rattle.std.specs.Str.{IsAscii}
+use Rattle.std.specs.Char.{is_ascii_uppercase, is_ascii_alphanumeric}
+use Rattle.std.specs.Cmp.Lexicographic.{same_text}
+use Rattle.std.proofs.lemmas.Bool.{eqb-true}
+use Rattle.std.proofs.lemmas.Bool.Decides.{leb_tells, nat_tests}
+use Rattle.std.proofs.lemmas.List.{take-append-drop}
+use Rattle.std.proofs.lemmas.Str.{IsAscii-append}
+use Rattle.std.proofs.lemmas.Str.Ascii.{IsAscii-nil}
+use Rattle.std.proofs.Math.Seq.{take-append_seam, drop-append_seam}
+use Rattle.expr_core.specs.declared.token.Token.{Token}
+use Rattle.expr_core.specs.declared.token.Token.TheVariants.{Word, Function, Foreign}
+use Rattle.expr_core.specs.Tokens.{begins_name, in_name, first_is, begins, name_of, is_reserved, call_mark, atom_mark, word_or_function, module_goes_on, module_of, module_word, cut}
+
+-- A text begins with this ASCII text.
+pub record Front (bs l : List ℕ) : Type 0 where
+  pub more : List ℕ
+  pub is : bs ≡ l ++ more
+  pub ascii : IsAscii l
+
+pub front_take : (bs l : List ℕ) → Front bs l → take (length l) bs ≡ l
+front_take bs l f = ap (take (length l)) f.is ∙ take-append_seam l f.more
+
+pub front_le : (bs l : List ℕ) → Front bs l → length l ≤ length bs
+front_le bs l f = omega (arith, ap length f.is, length-append l f.more)
+
+pub front_append : (bs a b : List ℕ) → Front bs a → Front (drop (length a) bs) b → Front bs (a ++ b)
+front_append bs a b f g =
+    let d : drop (length a) bs ≡ f.more = ap (drop (length a)) f.is ∙ drop-append_seam a f.more in
+    record {
+      more = g.more;
+      is = f.is ∙ ap (λ l. a ++ l) (sym d ∙ g.is) ∙ sym (append_assoc a b g.more);
+      ascii = IsAscii-append a b f.ascii g.ascii
+    }
+
+front_nil : (bs : List ℕ) → Front bs []
+front_nil bs = record { more = bs; is = refl; ascii = IsAscii-nil }
+
+ascii_cons : (b : ℕ) (bs : List ℕ) → b < 128 → IsAscii bs → IsAscii (b ∷ bs)
+ascii_cons b bs h k zero = h
+ascii_cons b bs h k (suc i) = k i
+
+ascii_one : (b : ℕ) → b < 128 → IsAscii (b ∷ [])
+ascii_one b h = ascii_cons b [] h IsAscii-nil
+
+-- what a test of the beginning has told
+begins_front : (w bs : List ℕ) → IsAscii w → begins w bs ≡ true → Front bs w
+begins_front w bs a h = record {
+  more = drop (length w) bs;
+  is = sym (take-append-drop (length w) bs) ∙ ap (λ l. l ++ drop (length w) bs) (sym (same_text w (take (length w) bs) (sym h)));
+  ascii = a
+}
+
+-- of a longer beginning the first character
+shorter : (b c : ℕ) (bs : List ℕ) → Front bs (b ∷ c ∷ []) → b < 128 → Front bs (b ∷ [])
+shorter b c bs f h = record { more = c ∷ f.more; is = f.is; ascii = ascii_one b h }
+
+either : {bs : List ℕ} (x : Bool) (a b : List ℕ) → (x ≡ true → Front bs a) → Front bs b → Front bs (if x then a else b)
+either true a b f g = f refl
+either false a b f g = g
+
+pub front_call_mark : (bs : List ℕ) → Front bs (call_mark bs)
+front_call_mark bs =
+    either (begins (codes "?(") bs) (codes "?") _ (λ h. shorter 63 40 bs (begins_front (codes "?(") bs (ascii_cons 63 (40 ∷ []) (omega arith) (ascii_one 40 (omega arith))) h) (omega arith))
+      (either (begins (codes "!(") bs) (codes "!") [] (λ h. shorter 33 40 bs (begins_front (codes "!(") bs (ascii_cons 33 (40 ∷ []) (omega arith) (ascii_one 40 (omega arith))) h) (omega arith)) (front_nil bs))
+
+both_true : (x y : Bool) → (x && y) ≡ true → x ≡ true
+both_true true y h = refl
+both_true false y h = h
+
+pub front_atom_mark : (bs : List ℕ) → Front bs (atom_mark bs)
+front_atom_mark bs =
+    either (begins (codes "?") bs) (codes "?") _ (λ h. begins_front (codes "?") bs (ascii_one 63 (omega arith)) h)
+      (either (begins (codes "!") bs && not (begins (codes "!=") bs)) (codes "!") [] (λ h. begins_front (codes "!") bs (ascii_one 33 (omega arith)) (both_true _ _ h)) (front_nil bs))
+
+name_ascii : (b : ℕ) → in_name b ≡ true → b < 128
+name_ascii b h = grind (arith, nat_tests)
+
+run_by : (b : ℕ) (bs : List ℕ) (x : Bool) → in_name b ≡ x → Front bs (take (prefix_len in_name bs) bs) → Front (b ∷ bs) (take (cond x (1 + prefix_len in_name bs) 0) (b ∷ bs))
+run_by b bs true k f =
+    let e : 1 + prefix_len in_name bs ≡ suc (prefix_len in_name bs) = omega arith in
+    subst (λ n. Front (b ∷ bs) (take n (b ∷ bs))) (sym e) (record { more = f.more; is = ap (λ l. b ∷ l) f.is; ascii = ascii_cons b _ (name_ascii b k) f.ascii })
+run_by b bs false k f = front_nil (b ∷ bs)
+
+-- a run of characters of a name
+run_front : (bs : List ℕ) → Front bs (take (prefix_len in_name bs) bs)
+run_front [] = front_nil []
+run_front (b ∷ bs) = run_by b bs (in_name b) refl (run_front bs)
+
+pub front_name : (bs : List ℕ) → Front bs (name_of bs)
+front_name bs = either (first_is begins_name bs) _ [] (λ h. run_front bs) (front_nil bs)
+
+-- an ASCII text of one character more
+front_cons : (b : ℕ) (bs l : List ℕ) → b < 128 → Front bs l → Front (b ∷ bs) (b ∷ l)
+front_cons b bs l h f = record { more = f.more; is = ap (λ x. b ∷ x) f.is; ascii = ascii_cons b l h f.ascii }
+
+module_ascii : (b : ℕ) (x : Bool) → (in_name b || (nat_eq b 46 && x)) ≡ true → b < 128
+module_ascii b x h = by_test (in_name b) (nat_eq b 46) refl refl h
+  where
+    by_test : (y z : Bool) → in_name b ≡ y → nat_eq b 46 ≡ z → (y || (z && x)) ≡ true → b < 128
+    by_test true z k m h = name_ascii b k
+    by_test false true k m h = let e : b ≡ 46 = eqb-true b 46 m in omega arith
+    by_test false false k m h = cc
+
+pub front_module : (bs : List ℕ) → Front bs (module_of bs)
+front_module [] = front_nil []
+front_module (b ∷ bs) = either (module_goes_on (b ∷ bs)) (b ∷ module_of bs) [] (λ h. front_cons b bs (module_of bs) (module_ascii b (first_is is_ascii_uppercase bs) h) (front_module bs)) (front_nil (b ∷ bs))
+
+-- a dot
+pub front_dot : (bs : List ℕ) → begins (codes ".") bs ≡ true → Front bs (codes ".")
+front_dot bs h = begins_front (codes ".") bs (ascii_one 46 (omega arith)) h
+
+-- a text that begins with a name has one
+pub name_some : (bs : List ℕ) → first_is begins_name bs ≡ true → 0 < length (name_of bs)
+name_some [] h = cc
+name_some (b ∷ bs) h = rw h (by_test (in_name b) refl)
+  where
+    in_too : begins_name b ≡ true → in_name b ≡ true
+    in_too k = grind (arith, nat_tests)
+    by_test : (x : Bool) → in_name b ≡ x → 0 < length (take (cond x (1 + prefix_len in_name bs) 0) (b ∷ bs))
+    by_test true k = let e : 1 + prefix_len in_name bs ≡ suc (prefix_len in_name bs) = omega arith in subst (λ n. 0 < length (take n (b ∷ bs))) (sym e) (grind arith)
+    by_test false k = let e = in_too h in cc
+
+-- a name without and with the mark of a call
+pub word_alone : (at : ℕ) (name mark : List ℕ) → length mark ≡ 0 → word_or_function at name mark ≡ cut (Word at name) (length name)
+word_alone at name [] h = refl
+word_alone at name (m ∷ ms) h = absurd (grind arith)
+
+pub word_marked : (at : ℕ) (name mark : List ℕ) → 0 < length mark → word_or_function at name mark ≡ cut (Function at (name ++ mark)) (length (name ++ mark))
+word_marked at name [] h = absurd (grind arith)
+word_marked at name (m ∷ ms) h = refl
