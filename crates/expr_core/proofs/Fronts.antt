@@ -3,13 +3,13 @@ use Rattle.std.proofs.Common.{◌≡◌, ℕ, zero, suc, ◌+◌, ◌-◌, ◌<�
 use Rattle.std.specs.Prelude.{nat_eq, nat_le, if◌then◌else◌}
 use Rattle.std.specs.Prelude.{cond}
 use Rattle.std.specs.List.{prefix_len, starts_with}
-use Rattle.std.specs.Str.{IsAscii}
+use Rattle.std.specs.Str.{IsAscii, IsUtf8, IsCharBoundary}
 use Rattle.std.specs.Char.{is_ascii_uppercase, is_ascii_alphanumeric}
 use Rattle.std.specs.Cmp.Lexicographic.{same_text}
 use Rattle.std.proofs.lemmas.Bool.{eqb-true}
 use Rattle.std.proofs.lemmas.Bool.Decides.{leb_tells, nat_tests}
-use Rattle.std.proofs.lemmas.List.{take-append-drop}
-use Rattle.std.proofs.lemmas.Str.{IsAscii-append}
+use Rattle.std.proofs.lemmas.List.{take-append-drop, get_or-take, get_or-drop}
+use Rattle.std.proofs.lemmas.Str.{IsAscii-append, IsCharBoundary-before_ascii, IsCharBoundary-after_ascii}
 use Rattle.std.proofs.lemmas.Str.Ascii.{IsAscii-nil}
 use Rattle.std.proofs.Math.Seq.{take-append_seam, drop-append_seam}
 use Rattle.expr_core.specs.declared.token.Token.{Token}
@@ -133,3 +133,37 @@ word_alone at name (m ∷ ms) h = absurd (grind arith)
 pub word_marked : (at : ℕ) (name mark : List ℕ) → 0 < length mark → word_or_function at name mark ≡ cut (Function at (name ++ mark)) (length (name ++ mark))
 word_marked at name [] h = absurd (grind arith)
 word_marked at name (m ∷ ms) h = refl
+
+-- Where an ASCII piece of a text begins and ends, the text may be cut.
+
+byte_at : (text : List ℕ) (at size i : ℕ) → i < size → IsAscii (take size (drop at text)) → get_or text (at + i) 0 < 128
+byte_at text at size i h a =
+    let e : get_or (take size (drop at text)) i 0 ≡ get_or text (at + i) 0 = get_or-take size (drop at text) i 0 h ∙ get_or-drop at text i 0 in
+    subst (λ (n : ℕ). n < 128) e (a i)
+
+pub start_at : (text : List ℕ) (at size : ℕ) → 0 < size → at + size ≤ length text → IsAscii (take size (drop at text)) → IsCharBoundary text at
+start_at text at size h k a =
+    let b = byte_at text at size 0 h a in
+    let e : at + 0 ≡ at = omega arith in
+    IsCharBoundary-before_ascii text at (omega arith) (subst (λ i. get_or text i 0 < 128) e b)
+
+pub end_at : (text : List ℕ) (at size : ℕ) → IsUtf8 text → 0 < size → at + size ≤ length text → IsAscii (take size (drop at text)) → IsCharBoundary text (at + size)
+end_at text at size u h k a =
+    let b = byte_at text at size (size - 1) (omega arith) a in
+    let e : at + (size - 1) + 1 ≡ at + size = omega arith in
+    subst (IsCharBoundary text) e (IsCharBoundary-after_ascii text (at + (size - 1)) u (omega arith) b)
+
+-- an ASCII front of what stands from a place on
+pub front_from : (bs l : List ℕ) (n : ℕ) → Front bs l → n ≡ length l → IsAscii (take n bs)
+front_from bs l n f e = subst IsAscii (sym (ap (λ i. take i bs) e ∙ front_take bs l f)) f.ascii
+
+-- a name with its mark
+pub full_front : (bs : List ℕ) (size : ℕ) → size ≡ length (name_of bs) → Front bs (name_of bs ++ call_mark (drop size bs))
+full_front bs size e = front_append bs (name_of bs) (call_mark (drop size bs)) (front_name bs) (subst (λ n. Front (drop n bs) (call_mark (drop size bs))) e (front_call_mark (drop size bs)))
+
+pub full_length : (bs : List ℕ) (size mark : ℕ) → size ≡ length (name_of bs) → mark ≡ length (call_mark (drop size bs)) → size + mark ≡ length (name_of bs ++ call_mark (drop size bs))
+full_length bs size mark e f = omega (arith, e, f, length-append (name_of bs) (call_mark (drop size bs)))
+
+-- the first bytes, so many as a front has
+pub front_first : (bs l : List ℕ) (n : ℕ) → Front bs l → n ≡ length l → take n bs ≡ l
+front_first bs l n f e = ap (λ i. take i bs) e ∙ front_take bs l f

@@ -1,6 +1,6 @@
 //! Names, reserved words, the names of calls, and atoms.
 ghost use Rattle.std.specs.Prelude.{◌≡◌, ◌≤◌, ◌<◌, ◌+◌, length, drop, take, IfOk, true};
-ghost use Rattle.std.specs.Str.{IsCharBoundary};
+ghost use Rattle.std.specs.Str.{IsAscii};
 ghost use Rattle.expr_core.specs.Tokens.{first_is, begins_name, name_of, reserved_token, call_mark, atom_mark, word_or_function, reserved_word, word};
 
 use crate::byte::{begins_with, name_length};
@@ -62,13 +62,15 @@ fn call_mark(behind: &[u8]) -> usize
     }
 }
 
-// The characters from one byte to another.
-fn copy_between(alloc: Global, text: &str, from: usize, size: usize) -> Result<Text, OutOfMemory>
-    requires start { IsCharBoundary text.now from }
-    requires end { IsCharBoundary text.now (from + size) }
-    ensures { IfOk result (λ t. t ≡ take size (drop from text.now)) }
+/// The ASCII characters that stand at a byte of a text.
+pub(crate) fn copy_ascii(alloc: Global, text: &str, at: usize, size: usize) -> Result<Text, OutOfMemory>
+    requires some { 0 < size }
+    requires within { at + size ≤ length text.now }
+    requires ascii { IsAscii (take size (drop at text.now)) }
+    ensures { IfOk result (λ t. t ≡ take size (drop at text.now)) }
 {
-    Text::copy_of(alloc, &text[from..from + size])
+    let end = at + size;
+    Text::copy_of(alloc, &text[at..end])
 }
 
 // A reserved word, or `do:` or `else:`.
@@ -91,5 +93,42 @@ fn reserved_word(token: Token, name: &[u8], behind: &[u8]) -> Cut
     Cut {
         token: Some(token),
         size: name.len(),
+    }
+}
+
+// A name, or what a mark makes the name of a call.
+fn name_or_function(alloc: Global, text: &str, at: usize, size: usize, mark: usize) -> Result<Cut, OutOfMemory>
+    requires begins { first_is begins_name (drop at text.now) ≡ true }
+    requires name { size ≡ length (name_of (drop at text.now)) }
+    requires mark { mark ≡ length (call_mark (drop size (drop at text.now))) }
+    ensures { IfOk result (λ c. c ≡ word_or_function at (name_of (drop at text.now)) (call_mark (drop size (drop at text.now)))) }
+{
+    if mark == 0 {
+        let name = copy_ascii(alloc, text, at, size)?;
+        return Ok(Cut {
+            token: Some(Token::Word { at, name }),
+            size,
+        });
+    }
+    let full = size + mark;
+    let name = copy_ascii(alloc, text, at, full)?;
+    Ok(Cut {
+        token: Some(Token::Function { at, name }),
+        size: full,
+    })
+}
+
+/// What begins with a small letter or `_`.
+pub(crate) fn word(alloc: Global, text: &str, at: usize) -> Result<Cut, OutOfMemory>
+    requires within { at ≤ length text.now }
+    requires begins { first_is begins_name (drop at text.now) ≡ true }
+    ensures { IfOk result (λ c. c ≡ word at (drop at text.now)) }
+{
+    let rest = text.as_bytes().split_at(at).1;
+    let size = name_length(rest);
+    let (name, behind) = rest.split_at(size);
+    match reserved_token(name) {
+        Some(token) => Ok(reserved_word(token, name, behind)),
+        None => name_or_function(alloc, text, at, size, call_mark(behind)),
     }
 }
