@@ -13,6 +13,7 @@ use Rattle.std.proofs.lemmas.Str.{IsAscii-append, IsCharBoundary-before_ascii, I
 use Rattle.std.proofs.lemmas.Str.Ascii.{IsAscii-nil}
 use Rattle.std.proofs.Math.Seq.{take-append_seam, drop-append_seam}
 use Rattle.expr_core.specs.declared.token.Token.{Token}
+use Rattle.expr_core.specs.declared.token.Cut.{Cut}
 use Rattle.expr_core.specs.declared.token.Token.TheVariants.{Word, Function, Foreign}
 use Rattle.expr_core.specs.Tokens.{begins_name, in_name, first_is, begins, name_of, is_reserved, call_mark, atom_mark, word_or_function, module_goes_on, module_of, module_word, cut}
 
@@ -167,3 +168,37 @@ full_length bs size mark e f = omega (arith, e, f, length-append (name_of bs) (c
 -- the first bytes, so many as a front has
 pub front_first : (bs l : List ℕ) (n : ℕ) → Front bs l → n ≡ length l → take n bs ≡ l
 front_first bs l n f e = ap (λ i. take i bs) e ∙ front_take bs l f
+
+-- A module with a dot and a name.
+
+abbrev pub behind_module : List ℕ → List ℕ
+behind_module bs = drop (length (module_of bs)) bs
+
+abbrev pub behind_dot : List ℕ → List ℕ
+behind_dot bs = drop 1 (behind_module bs)
+
+abbrev pub behind_called : List ℕ → List ℕ
+behind_called bs = drop (length (name_of (behind_dot bs))) (behind_dot bs)
+
+abbrev pub full_of : List ℕ → List ℕ
+full_of bs = module_of bs ++ (codes "." ++ (name_of (behind_dot bs) ++ call_mark (behind_called bs)))
+
+pub module_front : (bs : List ℕ) → begins (codes ".") (behind_module bs) ≡ true → Front bs (full_of bs)
+module_front bs h =
+    front_append bs (module_of bs) (codes "." ++ (name_of (behind_dot bs) ++ call_mark (behind_called bs))) (front_module bs)
+      (front_append (behind_module bs) (codes ".") (name_of (behind_dot bs) ++ call_mark (behind_called bs)) (front_dot (behind_module bs) h)
+        (full_front (behind_dot bs) (length (name_of (behind_dot bs))) refl))
+
+pub module_length : (bs : List ℕ) → length (full_of bs) ≡ length (module_of bs) + (1 + (length (name_of (behind_dot bs)) + length (call_mark (behind_called bs))))
+module_length bs =
+    let a = length-append (module_of bs) (codes "." ++ (name_of (behind_dot bs) ++ call_mark (behind_called bs))) in
+    let b = length-append (codes ".") (name_of (behind_dot bs) ++ call_mark (behind_called bs)) in
+    let d = length-append (name_of (behind_dot bs)) (call_mark (behind_called bs)) in
+    let e : length (codes ".") ≡ 1 = refl in
+    omega (arith, a, b, d, e)
+
+pub module_called : (at : ℕ) (bs : List ℕ) → begins (codes ".") (behind_module bs) ≡ true → first_is begins_name (behind_dot bs) ≡ true → is_reserved (name_of (behind_dot bs)) ≡ false → module_word at bs ≡ cut (Function at (full_of bs)) (length (full_of bs))
+module_called at bs h k l = choose (begins (codes ".") (behind_module bs)) (first_is begins_name (behind_dot bs)) (is_reserved (name_of (behind_dot bs))) (cut (Function at (full_of bs)) (length (full_of bs))) (cut Foreign (length (module_of bs))) h k l
+  where
+    choose : (x y z : Bool) (a b : Cut) → x ≡ true → y ≡ true → z ≡ false → (if x && (y && not z) then a else b) ≡ a
+    choose x y z a b h k l = rw (h, k, l) refl

@@ -81,3 +81,13 @@ fits_signed n v h = by_test (nat_le n 9223372036854775807) refl h
 
 pub cut_eq : (t u : Token) (n m : ℕ) → t ≡ u → n ≡ m → ◌≡◌ {A = Cut} (record { token = Some t; size = n }) (cut u m)
 cut_eq t u n m h k = ap (λ x. cut x n) h ∙ ap (cut u) k
+
+-- Modules.
+
+module_cons : (b : ℕ) (bs : List ℕ) → module_goes_on (b ∷ bs) ≡ true → length (module_of (b ∷ bs)) ≡ length (module_of bs) + 1
+module_cons b bs h = ap (λ (x : Bool). length (if x then b ∷ module_of bs else [])) h ∙ grind arith
+
+pub module_step : (l : List ℕ) (j : ℕ) → j < length l → module_goes_on (drop j l) ≡ true → length (module_of (drop j l)) ≡ length (module_of (drop (j + 1) l)) + 1
+module_step l j h k =
+    let e = head_of l j 0 h in
+    ap (λ x. length (module_of x)) e ∙ module_cons (get_or l j 0) (drop (j + 1) l) (sym (ap module_goes_on e) ∙ k)

@@ -127,7 +127,7 @@ module_word at bs =
     let rest = drop (length modules) bs in
     let behind = drop 1 rest in
     let called = name_of behind in
-    let full = modules ++ codes "." ++ called ++ call_mark (drop (length called) behind) in
+    let full = modules ++ (codes "." ++ (called ++ call_mark (drop (length called) behind))) in
     if begins (codes ".") rest && (first_is begins_name behind && not (is_reserved called)) then cut (Function at full) (length full) else cut Foreign (length modules)
 
 -- Numbers.

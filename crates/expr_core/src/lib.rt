@@ -3,6 +3,7 @@
 
 mod byte;
 mod fault;
+mod module;
 mod number;
 mod token;
 mod word;

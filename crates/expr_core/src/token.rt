@@ -1,5 +1,8 @@
 //! The tokens of expressions and patterns.
 
+ghost use Rattle.std.specs.Prelude.{◌≡◌};
+ghost use Rattle.expr_core.specs.Tokens.{cut};
+
 use ast_core::BinaryOp;
 use text_core::Text;
 
@@ -130,4 +133,14 @@ pub(crate) struct Cut {
 pub(crate) struct Piece {
     pub text: Text,
     pub size: usize,
+}
+
+/// A token of so many bytes.
+pub(crate) fn sized(token: Token, size: usize) -> Cut
+    ensures { result ≡ cut token size }
+{
+    Cut {
+        token: Some(token),
+        size,
+    }
 }

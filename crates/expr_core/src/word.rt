@@ -1,7 +1,7 @@
 //! Names, reserved words, the names of calls, and atoms.
 ghost use Rattle.std.specs.Prelude.{◌≡◌, ◌≤◌, ◌<◌, ◌+◌, length, drop, take, IfOk, true};
 ghost use Rattle.std.specs.Str.{IsAscii};
-ghost use Rattle.expr_core.specs.Tokens.{first_is, begins_name, name_of, reserved_token, call_mark, atom_mark, word_or_function, reserved_word, word};
+ghost use Rattle.expr_core.specs.Tokens.{first_is, begins_name, name_of, reserved_token, is_reserved, call_mark, word_or_function, reserved_word, word};
 
 use crate::byte::{begins_with, name_length};
 use crate::token::{Cut, Token};
@@ -49,8 +49,8 @@ fn reserved_token(name: &[u8]) -> Option<Token>
     None
 }
 
-// How long the `?` or `!` is that makes the name before it the name of a call.
-fn call_mark(behind: &[u8]) -> usize
+/// How long the `?` or `!` is that makes the name before it the name of a call.
+pub(crate) fn call_mark(behind: &[u8]) -> usize
     ensures { result ≡ length (call_mark behind.now) }
 {
     if begins_with(behind, b"?(") {
@@ -131,4 +131,11 @@ pub(crate) fn word(alloc: Global, text: &str, at: usize) -> Result<Cut, OutOfMem
         Some(token) => Ok(reserved_word(token, name, behind)),
         None => name_or_function(alloc, text, at, size, call_mark(behind)),
     }
+}
+
+/// Whether a word is reserved.
+pub(crate) fn is_reserved(name: &[u8]) -> bool
+    ensures { result ≡ is_reserved name.now }
+{
+    reserved_token(name).is_some()
 }
