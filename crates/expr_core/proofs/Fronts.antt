@@ -14,8 +14,8 @@ use Rattle.std.proofs.lemmas.Str.Ascii.{IsAscii-nil}
 use Rattle.std.proofs.Math.Seq.{take-append_seam, drop-append_seam}
 use Rattle.expr_core.specs.declared.token.Token.{Token}
 use Rattle.expr_core.specs.declared.token.Cut.{Cut}
-use Rattle.expr_core.specs.declared.token.Token.TheVariants.{Word, Function, Foreign}
-use Rattle.expr_core.specs.Tokens.{begins_name, in_name, first_is, begins, name_of, is_reserved, call_mark, atom_mark, word_or_function, module_goes_on, module_of, module_word, cut}
+use Rattle.expr_core.specs.declared.token.Token.TheVariants.{Word, Function, Atom, Colon, Foreign}
+use Rattle.expr_core.specs.Tokens.{begins_name, in_name, first_is, begins, name_of, is_reserved, call_mark, atom_mark, word_or_function, module_goes_on, module_of, module_word, colon, cut}
 
 -- A text begins with this ASCII text.
 pub record Front (bs l : List ℕ) : Type 0 where
@@ -202,3 +202,40 @@ module_called at bs h k l = choose (begins (codes ".") (behind_module bs)) (firs
   where
     choose : (x y z : Bool) (a b : Cut) → x ≡ true → y ≡ true → z ≡ false → (if x && (y && not z) then a else b) ≡ a
     choose x y z a b h k l = rw (h, k, l) refl
+
+-- An atom.
+
+abbrev pub behind_name : List ℕ → List ℕ
+behind_name bs = drop (length (name_of bs)) bs
+
+abbrev pub atom_of : List ℕ → List ℕ
+atom_of bs = name_of bs ++ atom_mark (behind_name bs)
+
+pub atom_front : (bs : List ℕ) → Front bs (atom_of bs)
+atom_front bs = front_append bs (name_of bs) (atom_mark (behind_name bs)) (front_name bs) (front_atom_mark (behind_name bs))
+
+pub atom_called : (bs : List ℕ) → first_is is_ascii_uppercase bs ≡ false → is_reserved (name_of bs) ≡ false → first_is begins_name bs ≡ true → colon bs ≡ cut (Atom (atom_of bs)) (length (atom_of bs) + 1)
+atom_called bs h k l = choose (first_is is_ascii_uppercase bs) (is_reserved (name_of bs)) (first_is begins_name bs) (cut Foreign 1) (cut (Atom (atom_of bs)) (length (atom_of bs) + 1)) (cut Colon 1) h k l
+  where
+    choose : (x y z : Bool) (a b d : Cut) → x ≡ false → y ≡ false → z ≡ true → (if x || y then a else if z then b else d) ≡ b
+    choose x y z a b d h k l = rw (h, k, l) refl
+
+-- What the steps of the code have found, in the words of the definition.
+pub record AtomFound (bs : List ℕ) (size mark : ℕ) : Type 0 where
+  pub lower : first_is is_ascii_uppercase bs ≡ false
+  pub free : is_reserved (name_of bs) ≡ false
+  pub named : first_is begins_name bs ≡ true
+  pub full : size + mark ≡ length (atom_of bs)
+
+pub atom_found : (bs rest name after : List ℕ) (size mark : ℕ) → rest ≡ bs → size ≡ length (name_of rest) → name ≡ take size rest → after ≡ drop size rest → first_is is_ascii_uppercase rest ≡ false → is_reserved name ≡ false → first_is begins_name rest ≡ true → mark ≡ length (atom_mark after) → AtomFound bs size mark
+atom_found bs rest name after size mark r s n a u k b m =
+    let s' : size ≡ length (name_of bs) = s ∙ ap (λ x. length (name_of x)) r in
+    let n' : name ≡ name_of bs = n ∙ ap (take size) r ∙ front_first bs (name_of bs) size (front_name bs) s' in
+    let a' : after ≡ behind_name bs = a ∙ ap (drop size) r ∙ ap (λ i. drop i bs) s' in
+    let m' : mark ≡ length (atom_mark (behind_name bs)) = m ∙ ap (λ x. length (atom_mark x)) a' in
+    record {
+      lower = sym (ap (first_is is_ascii_uppercase) r) ∙ u;
+      free = sym (ap is_reserved n') ∙ k;
+      named = sym (ap (first_is begins_name) r) ∙ b;
+      full = omega (arith, s', m', length-append (name_of bs) (atom_mark (behind_name bs)))
+    }
