@@ -1,4 +1,5 @@
 pub mod Tokens
+pub mod Pieces
 pub mod Language
 pub mod Outcome
 pub mod Functions

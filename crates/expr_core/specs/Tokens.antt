@@ -57,12 +57,11 @@ long_signs =
   ∷ (codes "<=", Operator op.AtMost) ∷ (codes ">=", Operator op.AtLeast) ∷ (codes "++", Operator op.Append) ∷ (codes "<>", Operator op.Concat)
   ∷ (codes "|>", Pipe) ∷ (codes "=>", Arrow) ∷ (codes "%{", OpeningMap) ∷ []
 
+-- the signs of one character that are the same wherever they stand
 abbrev pub short_signs : List Row
 short_signs =
-  (codes "<", Operator op.Less) ∷ (codes ">", Operator op.Greater) ∷ (codes "+", Operator op.Plus) ∷ (codes "-", Operator op.Minus) ∷ (codes "*", Operator op.Times)
-  ∷ (codes "!", Bang) ∷ (codes "@", At) ∷ (codes ".", Dot) ∷ (codes ",", Comma) ∷ (codes ":", Colon)
-  ∷ (codes "(", OpeningRound) ∷ (codes "[", OpeningSquare) ∷ (codes "{", OpeningCurly)
-  ∷ (codes ")", Closing Round) ∷ (codes "]", Closing Square) ∷ (codes "}", Closing Curly) ∷ []
+    (codes "<", Operator op.Less) ∷ (codes ">", Operator op.Greater) ∷ (codes "+", Operator op.Plus) ∷ (codes "-", Operator op.Minus) ∷ (codes "*", Operator op.Times)
+    ∷ (codes "!", Bang) ∷ (codes "@", At) ∷ (codes ",", Comma) ∷ (codes "{", OpeningCurly) ∷ (codes ")", Closing Round) ∷ (codes "]", Closing Square) ∷ []
 
 -- the token of the first row with this property
 abbrev pub token_where : (List ℕ → Bool) → List Row → Option Token
@@ -279,25 +278,23 @@ abbrev pub in_part : List Opened → Bool
 in_part [] = false
 in_part (o ∷ os) = is_parted o.kind
 
--- a sign by what ends directly before it, and by whether a part of a text is the innermost opening
-abbrev pub sign_token : Near → Bool → Token → List ℕ → Cut
-sign_token near part OpeningRound rest = cut (if near.name then CallOpening else OpeningRound) 1
-sign_token near part OpeningSquare rest = cut (if near.value then IndexOpening else OpeningSquare) 1
-sign_token near part Dot rest = cut (if near.value then Dot else Foreign) 1
-sign_token near part (Closing Curly) rest = if part then with_piece PartClosing rest else cut (Closing Curly) 1
-sign_token near part Colon rest = colon rest
-sign_token near part t rest = cut t 1
+abbrev pub short_by : Option Token → Cut
+short_by None = cut Foreign 1
+short_by (Some t) = cut t 1
 
-abbrev pub short_by : Option Token → Near → Bool → List ℕ → Cut
-short_by None near part bs = cut Foreign 1
-short_by (Some t) near part bs = sign_token near part t (drop 1 bs)
+abbrev pub long_by : Option Token → List ℕ → Cut
+long_by None bs = short_by (token_where (λ s. begins s bs) short_signs)
+long_by (Some t) bs = cut t 2
 
-abbrev pub long_by : Option Token → Near → Bool → List ℕ → Cut
-long_by None near part bs = short_by (token_where (λ s. begins s bs) short_signs) near part bs
-long_by (Some t) near part bs = cut t 2
-
+-- A sign. What a parenthesis, a square bracket and a dot are is told by what ends directly before them, and whether a brace ends a part of a text by the innermost opening.
 abbrev pub sign : Near → Bool → List ℕ → Cut
-sign near part bs = long_by (token_where (λ s. begins s bs) long_signs) near part bs
+sign near part bs =
+    if begins (codes "(") bs then cut (if near.name then CallOpening else OpeningRound) 1
+    else if begins (codes "[") bs then cut (if near.value then IndexOpening else OpeningSquare) 1
+    else if begins (codes ".") bs then cut (if near.value then Dot else Foreign) 1
+    else if begins (codes ":") bs then colon (drop 1 bs)
+    else if begins (codes "}") bs then (if part then with_piece PartClosing (drop 1 bs) else cut (Closing Curly) 1)
+    else long_by (token_where (λ s. begins s bs) long_signs) bs
 
 -- The tokens.
 

@@ -5,6 +5,7 @@ mod byte;
 mod fault;
 mod module;
 mod number;
+mod piece;
 mod token;
 mod word;
 
