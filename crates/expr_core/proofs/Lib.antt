@@ -16,3 +16,4 @@ pub mod PatternShapes
 pub mod PatternExact
 pub mod Lexes
 pub mod Fronts
+pub mod PieceFacts

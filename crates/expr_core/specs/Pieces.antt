@@ -8,6 +8,10 @@ use Rattle.expr_core.specs.Tokens.{piece_from, no_piece}
 abbrev pub is_plain : ℕ → Bool
 is_plain b = not (nat_eq b 34 || (nat_eq b 35 || nat_eq b 92))
 
+-- what an escape or a lone `#` stands for
+abbrev pub is_mark : ℕ → Bool
+is_mark b = nat_eq b 34 || (nat_eq b 92 || (nat_eq b 35 || (nat_eq b 10 || nat_eq b 9)))
+
 -- a piece behind these characters, which have so many bytes
 abbrev pub behind : List ℕ → ℕ → Piece → Piece
 behind t n p = record { text = t ++ p.text; size = n + p.size }

@@ -1,7 +1,13 @@
 //! The characters of texts.
-ghost use Rattle.std.specs.Prelude.{◌≡◌};
+ghost use Rattle.std.specs.Prelude.{◌≡◌, ◌+◌, ◌++◌, [], ◌∷◌, take, drop, true, false, IfOk, IfSome, OnOk};
 ghost use Rattle.std.specs.List.{prefix_len};
-ghost use Rattle.expr_core.specs.Pieces.{is_plain, MarksPiece};
+ghost use Rattle.std.specs.Str.{IsCharBoundary};
+ghost use Rattle.expr_core.specs.Tokens.{piece_from};
+ghost use Rattle.expr_core.specs.Pieces.{is_plain, is_mark, MarksPiece};
+
+use crate::token::Piece;
+use std::alloc::Global;
+use text_core::{OutOfMemory, Text};
 
 // Whether a byte stands for itself whatever follows.
 fn is_plain(byte: u8) -> bool
@@ -24,7 +30,8 @@ fn run_length(rest: &[u8]) -> usize
 // What the escape or the lone `#` that these bytes begin with stands for, and how many bytes it has.
 fn mark(rest: &[u8]) -> Option<(u8, usize)>
     requires { prefix_len is_plain rest.now ≡ 0 }
-    ensures { MarksPiece rest.now result }
+    ensures piece { MarksPiece rest.now result }
+    ensures marks { IfSome result (λ m. is_mark m.0 ≡ true) }
 {
     match rest {
         [b'#', b'{', ..] => None,
@@ -36,4 +43,54 @@ fn mark(rest: &[u8]) -> Option<(u8, usize)>
         [b'\\', b't', ..] => Some((b'\t', 2)),
         _ => None,
     }
+}
+
+// Adds what an escape or a lone `#` stands for.
+fn push_mark(out: &mut Text, byte: u8) -> Result<(), OutOfMemory>
+    requires { is_mark byte ≡ true }
+    ensures { OnOk result (out.new ≡ out.old ++ byte ∷ []) }
+{
+    let one = match byte {
+        b'"' => "\"",
+        b'\\' => "\\",
+        b'#' => "#",
+        b'\n' => "\n",
+        _ => "\t",
+    };
+    out.push_str(one)
+}
+
+// Adds the characters that stand for themselves, and gives where they end.
+fn push_run(out: &mut Text, text: &str, at: usize) -> Result<usize, OutOfMemory>
+    requires { IsCharBoundary text.now at }
+    ensures end { IfOk result (λ end. end ≡ at + prefix_len is_plain (drop at text.now)) }
+    ensures cut { IfOk result (λ end. IsCharBoundary text.now end) }
+    ensures added { OnOk result (out.new ≡ out.old ++ take (prefix_len is_plain (drop at text.now)) (drop at text.now)) }
+{
+    let end = at + run_length(text.as_bytes().split_at(at).1);
+    out.push_str(&text[at..end])?;
+    Ok(end)
+}
+
+/// The piece of a text that begins at this byte.
+pub(crate) fn piece(alloc: Global, text: &str, from: usize) -> Result<Piece, OutOfMemory>
+    requires { IsCharBoundary text.now from }
+    ensures { IfOk result (λ p. p ≡ piece_from false (drop from text.now)) }
+{
+    let mut out = Text::new(alloc);
+    let mut at = from;
+    'more: loop {
+        at = push_run(&mut out, text, at)?;
+        match mark(text.as_bytes().split_at(at).1) {
+            None => break,
+            Some((byte, size)) => {
+                push_mark(&mut out, byte)?;
+                at += size;
+            }
+        }
+    }
+    Ok(Piece {
+        text: out,
+        size: at - from,
+    })
 }
