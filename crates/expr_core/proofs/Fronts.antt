@@ -35,7 +35,7 @@ front_append bs a b f g =
     record {
       more = g.more;
       is = f.is ∙ ap (λ l. a ++ l) (sym d ∙ g.is) ∙ sym (append_assoc a b g.more);
-      ascii = IsAscii-append a b f.ascii g.ascii
+      ascii = IsAscii-append a b f.ascii g.ascii;
     }
 
 front_nil : (bs : List ℕ) → Front bs []
@@ -53,7 +53,7 @@ begins_front : (w bs : List ℕ) → IsAscii w → begins w bs ≡ true → Fron
 begins_front w bs a h = record {
   more = drop (length w) bs;
   is = sym (take-append-drop (length w) bs) ∙ ap (λ l. l ++ drop (length w) bs) (sym (same_text w (take (length w) bs) (sym h)));
-  ascii = a
+  ascii = a;
 }
 
 -- of a longer beginning the first character
@@ -67,7 +67,7 @@ either false a b f g = g
 pub front_call_mark : (bs : List ℕ) → Front bs (call_mark bs)
 front_call_mark bs =
     either (begins (codes "?(") bs) (codes "?") _ (λ h. shorter 63 40 bs (begins_front (codes "?(") bs (ascii_cons 63 (40 ∷ []) (omega arith) (ascii_one 40 (omega arith))) h) (omega arith))
-      (either (begins (codes "!(") bs) (codes "!") [] (λ h. shorter 33 40 bs (begins_front (codes "!(") bs (ascii_cons 33 (40 ∷ []) (omega arith) (ascii_one 40 (omega arith))) h) (omega arith)) (front_nil bs))
+    (either (begins (codes "!(") bs) (codes "!") [] (λ h. shorter 33 40 bs (begins_front (codes "!(") bs (ascii_cons 33 (40 ∷ []) (omega arith) (ascii_one 40 (omega arith))) h) (omega arith)) (front_nil bs))
 
 both_true : (x y : Bool) → (x && y) ≡ true → x ≡ true
 both_true true y h = refl
@@ -76,7 +76,7 @@ both_true false y h = h
 pub front_atom_mark : (bs : List ℕ) → Front bs (atom_mark bs)
 front_atom_mark bs =
     either (begins (codes "?") bs) (codes "?") _ (λ h. begins_front (codes "?") bs (ascii_one 63 (omega arith)) h)
-      (either (begins (codes "!") bs && not (begins (codes "!=") bs)) (codes "!") [] (λ h. begins_front (codes "!") bs (ascii_one 33 (omega arith)) (both_true _ _ h)) (front_nil bs))
+    (either (begins (codes "!") bs && not (begins (codes "!=") bs)) (codes "!") [] (λ h. begins_front (codes "!") bs (ascii_one 33 (omega arith)) (both_true _ _ h)) (front_nil bs))
 
 name_ascii : (b : ℕ) → in_name b ≡ true → b < 128
 name_ascii b h = grind (arith, nat_tests)
@@ -122,6 +122,7 @@ name_some (b ∷ bs) h = rw h (by_test (in_name b) refl)
   where
     in_too : begins_name b ≡ true → in_name b ≡ true
     in_too k = grind (arith, nat_tests)
+
     by_test : (x : Bool) → in_name b ≡ x → 0 < length (take (cond x (1 + prefix_len in_name bs) 0) (b ∷ bs))
     by_test true k = let e : 1 + prefix_len in_name bs ≡ suc (prefix_len in_name bs) = omega arith in subst (λ n. 0 < length (take n (b ∷ bs))) (sym e) (grind arith)
     by_test false k = let e = in_too h in cc
@@ -186,8 +187,8 @@ full_of bs = module_of bs ++ (codes "." ++ (name_of (behind_dot bs) ++ call_mark
 pub module_front : (bs : List ℕ) → begins (codes ".") (behind_module bs) ≡ true → Front bs (full_of bs)
 module_front bs h =
     front_append bs (module_of bs) (codes "." ++ (name_of (behind_dot bs) ++ call_mark (behind_called bs))) (front_module bs)
-      (front_append (behind_module bs) (codes ".") (name_of (behind_dot bs) ++ call_mark (behind_called bs)) (front_dot (behind_module bs) h)
-        (full_front (behind_dot bs) (length (name_of (behind_dot bs))) refl))
+    (front_append (behind_module bs) (codes ".") (name_of (behind_dot bs) ++ call_mark (behind_called bs)) (front_dot (behind_module bs) h)
+    (full_front (behind_dot bs) (length (name_of (behind_dot bs))) refl))
 
 pub module_length : (bs : List ℕ) → length (full_of bs) ≡ length (module_of bs) + (1 + (length (name_of (behind_dot bs)) + length (call_mark (behind_called bs))))
 module_length bs =
@@ -237,5 +238,5 @@ atom_found bs rest name after size mark r s n a u k b m =
       lower = sym (ap (first_is is_ascii_uppercase) r) ∙ u;
       free = sym (ap is_reserved n') ∙ k;
       named = sym (ap (first_is begins_name) r) ∙ b;
-      full = omega (arith, s', m', length-append (name_of bs) (atom_mark (behind_name bs)))
+      full = omega (arith, s', m', length-append (name_of bs) (atom_mark (behind_name bs)));
     }

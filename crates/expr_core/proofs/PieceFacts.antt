@@ -53,7 +53,7 @@ run_by b bs true h i =
     let n = prefix_len is_plain bs in
     let e : 1 + n ≡ suc n = omega arith in
     subst (λ k. piece_from false (b ∷ bs) ≡ behind (take k (b ∷ bs)) k (piece_from false (drop k (b ∷ bs)))) (sym e)
-      (plain_first b bs (plain b h) ∙ ap (with_text (b ∷ [])) i ∙ piece_eq _ _ _ _ refl (omega arith))
+    (plain_first b bs (plain b h) ∙ ap (with_text (b ∷ [])) i ∙ piece_eq _ _ _ _ refl (omega arith))
 
 -- what stands for itself
 pub plain_run : (bs : List ℕ) → piece_from false bs ≡ behind (take (prefix_len is_plain bs) bs) (prefix_len is_plain bs) (piece_from false (drop (prefix_len is_plain bs) bs))
@@ -100,13 +100,15 @@ pub run_cut : (text : List ℕ) (at n : ℕ) → IsCharBoundary text at → n �
 run_cut text at n b e =
     let bs = drop at text in
     let m = prefix_len is_plain bs in
-    let within : at + n ≤ length text = omega (arith, e, run_le bs, length-drop at text, b.0) in
-    (within, λ lt high.
-      let some : 0 < length (drop m bs) = omega (arith, e, length-drop at text, length-drop m bs, lt, b.0) in
-      let low : get_or (drop m bs) 0 0 < 128 = first_special (drop m bs) (none_behind bs) some in
-      let same : get_or (drop m bs) 0 0 ≡ get_or text (at + n) 0 = get_or-drop m bs 0 0 ∙ ap (λ i. get_or bs i 0) (let k : m + 0 ≡ n = omega (arith, e) in k) ∙ get_or-drop at text n 0 in
-      let low' : get_or text (at + n) 0 < 128 = subst (λ (i : ℕ). i < 128) same low in
-      absurd (omega (arith, low', high)))
+    let within : at + n ≤ length text = omega (arith, e, run_le bs, length-drop at text, b.0) in (
+      within,
+      λ lt high.
+          let some : 0 < length (drop m bs) = omega (arith, e, length-drop at text, length-drop m bs, lt, b.0) in
+          let low : get_or (drop m bs) 0 0 < 128 = first_special (drop m bs) (none_behind bs) some in
+          let same : get_or (drop m bs) 0 0 ≡ get_or text (at + n) 0 = get_or-drop m bs 0 0 ∙ ap (λ i. get_or bs i 0) (let k : m + 0 ≡ n = omega (arith, e) in k) ∙ get_or-drop at text n 0 in
+          let low' : get_or text (at + n) 0 < 128 = subst (λ (i : ℕ). i < 128) same low in
+          absurd (omega (arith, low', high)),
+    )
 
 -- What is known where a piece has come to.
 pub record Going (text : List ℕ) (from at : ℕ) (out : List ℕ) : Type 0 where
@@ -118,7 +120,7 @@ pub going_start : (text : List ℕ) (from : ℕ) → IsCharBoundary text from �
 going_start text from b = record {
   cut = b;
   order = omega arith;
-  same = sym (behind_nothing (piece_from false (drop from text))) ∙ ap (λ n. behind [] n (piece_from false (drop from text))) (let e : 0 ≡ from - from = omega arith in e)
+  same = sym (behind_nothing (piece_from false (drop from text))) ∙ ap (λ n. behind [] n (piece_from false (drop from text))) (let e : 0 ≡ from - from = omega arith in e);
 }
 
 -- with a run behind it
@@ -141,7 +143,7 @@ going_on text from at n size b out u g e m =
     record {
       cut = subst (IsCharBoundary text) place (IsCharBoundary-after_ascii text (at + n + (size - 1)) u (omega (arith, m.within, m.some, length-drop (at + n) text)) low);
       order = omega (arith, g.order);
-      same = going_run text from at n out g e ∙ ap (behind out' k) m.same ∙ behind_twice out' (b ∷ []) k size (piece_from false (drop size bs)) ∙ ap (λ l. behind (out' ++ b ∷ []) (k + size) (piece_from false l)) (drop-drop size (at + n) text) ∙ ap (λ i. behind (out' ++ b ∷ []) i (piece_from false (drop (at + n + size) text))) total
+      same = going_run text from at n out g e ∙ ap (behind out' k) m.same ∙ behind_twice out' (b ∷ []) k size (piece_from false (drop size bs)) ∙ ap (λ l. behind (out' ++ b ∷ []) (k + size) (piece_from false l)) (drop-drop size (at + n) text) ∙ ap (λ i. behind (out' ++ b ∷ []) i (piece_from false (drop (at + n + size) text))) total;
     }
 
 pub going_end : (text : List ℕ) (from at n : ℕ) (out : List ℕ) → Going text from at out → n ≡ prefix_len is_plain (drop at text) → piece_from false (drop (at + n) text) ≡ no_piece

@@ -53,9 +53,9 @@ reserved =
 -- the signs of two characters, which come before those of one
 abbrev pub long_signs : List Row
 long_signs =
-  (codes "||", Operator op.OrElse) ∷ (codes "&&", Operator op.AndAlso) ∷ (codes "==", Operator op.Equal) ∷ (codes "!=", Operator op.Unequal)
-  ∷ (codes "<=", Operator op.AtMost) ∷ (codes ">=", Operator op.AtLeast) ∷ (codes "++", Operator op.Append) ∷ (codes "<>", Operator op.Concat)
-  ∷ (codes "|>", Pipe) ∷ (codes "=>", Arrow) ∷ (codes "%{", OpeningMap) ∷ []
+    (codes "||", Operator op.OrElse) ∷ (codes "&&", Operator op.AndAlso) ∷ (codes "==", Operator op.Equal) ∷ (codes "!=", Operator op.Unequal)
+    ∷ (codes "<=", Operator op.AtMost) ∷ (codes ">=", Operator op.AtLeast) ∷ (codes "++", Operator op.Append) ∷ (codes "<>", Operator op.Concat)
+    ∷ (codes "|>", Pipe) ∷ (codes "=>", Arrow) ∷ (codes "%{", OpeningMap) ∷ []
 
 -- the signs of one character that are the same wherever they stand
 abbrev pub short_signs : List Row
@@ -343,9 +343,9 @@ abbrev pub tokens_from : ℕ → Near → List Opened → ℕ → List ℕ → L
 tokens_from at near os n [] = []
 tokens_from at near os (suc n) (b ∷ bs) = tokens_from (at + 1) near os n bs
 tokens_from at near os zero (b ∷ bs) =
-  let c = first_token (in_text os) at near (in_part os) b bs in
-  let found = placed at c.token in
-  found ++ tokens_from (at + 1) (near_of c.token) (opened_by os found) (c.size - 1) bs
+    let c = first_token (in_text os) at near (in_part os) b bs in
+    let found = placed at c.token in
+    found ++ tokens_from (at + 1) (near_of c.token) (opened_by os found) (c.size - 1) bs
 
 -- the tokens of a text
 abbrev pub placed_tokens : List ℕ → List Placed

@@ -6,6 +6,7 @@ mod fault;
 mod module;
 mod number;
 mod piece;
+mod sign;
 mod token;
 mod word;
 

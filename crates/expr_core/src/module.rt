@@ -73,11 +73,7 @@ fn atom_mark(behind: &[u8]) -> usize
     if !begins_with(behind, b"!") {
         return 0;
     }
-    if begins_with(behind, b"!=") {
-        0
-    } else {
-        1
-    }
+    if begins_with(behind, b"!=") { 0 } else { 1 }
 }
 
 /// What a colon begins, with this behind it.

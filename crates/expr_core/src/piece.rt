@@ -1,5 +1,5 @@
 //! The characters of texts.
-ghost use Rattle.std.specs.Prelude.{◌≡◌, ◌+◌, ◌++◌, [], ◌∷◌, take, drop, true, false, IfOk, IfSome, OnOk};
+ghost use Rattle.std.specs.Prelude.{◌≡◌, ◌+◌, ◌≤◌, ◌++◌, length, [], ◌∷◌, take, drop, true, false, IfOk, IfSome, OnOk};
 ghost use Rattle.std.specs.List.{prefix_len};
 ghost use Rattle.std.specs.Str.{IsCharBoundary};
 ghost use Rattle.expr_core.specs.Tokens.{piece_from};
@@ -75,7 +75,8 @@ fn push_run(out: &mut Text, text: &str, at: usize) -> Result<usize, OutOfMemory>
 /// The piece of a text that begins at this byte.
 pub(crate) fn piece(alloc: Global, text: &str, from: usize) -> Result<Piece, OutOfMemory>
     requires { IsCharBoundary text.now from }
-    ensures { IfOk result (λ p. p ≡ piece_from false (drop from text.now)) }
+    ensures value { IfOk result (λ p. p ≡ piece_from false (drop from text.now)) }
+    ensures within { IfOk result (λ p. from + p.size ≤ length text.now) }
 {
     let mut out = Text::new(alloc);
     let mut at = from;

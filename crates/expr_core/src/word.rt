@@ -63,7 +63,12 @@ pub(crate) fn call_mark(behind: &[u8]) -> usize
 }
 
 /// The ASCII characters that stand at a byte of a text.
-pub(crate) fn copy_ascii(alloc: Global, text: &str, at: usize, size: usize) -> Result<Text, OutOfMemory>
+pub(crate) fn copy_ascii(
+    alloc: Global,
+    text: &str,
+    at: usize,
+    size: usize,
+) -> Result<Text, OutOfMemory>
     requires some { 0 < size }
     requires within { at + size ≤ length text.now }
     requires ascii { IsAscii (take size (drop at text.now)) }
@@ -97,7 +102,13 @@ fn reserved_word(token: Token, name: &[u8], behind: &[u8]) -> Cut
 }
 
 // A name, or what a mark makes the name of a call.
-fn name_or_function(alloc: Global, text: &str, at: usize, size: usize, mark: usize) -> Result<Cut, OutOfMemory>
+fn name_or_function(
+    alloc: Global,
+    text: &str,
+    at: usize,
+    size: usize,
+    mark: usize,
+) -> Result<Cut, OutOfMemory>
     requires begins { first_is begins_name (drop at text.now) ≡ true }
     requires name { size ≡ length (name_of (drop at text.now)) }
     requires mark { mark ≡ length (call_mark (drop size (drop at text.now))) }

@@ -27,7 +27,7 @@ found bs rest behind called name after size len mark r s b h d k n m a l e =
       front = sym (ap (begins (codes ".")) b') ∙ h;
       named = sym (ap (first_is begins_name) d') ∙ k;
       free = sym (ap is_reserved m') ∙ l;
-      full = omega (arith, s', n', e', module_length bs)
+      full = omega (arith, s', n', e', module_length bs);
     }
 
 pub split_at-requires-2 : goal.split_at-requires-2
@@ -37,8 +37,8 @@ pub copy_ascii-requires-clause-ascii : goal.copy_ascii-requires-clause-ascii
 copy_ascii-requires-clause-ascii c =
     let bs = drop c.args.at c.args.text.now in
     let f = found (drop c.args.at c.args.text.now) c.split_at.result.1.now c.split_at-2.result.1.now c.split_at-3.result.1.now c.split_at-4.result.0.now c.split_at-4.result.1.now c.module_length-size.result c.name_length-length.result c.call_mark-mark.result
-      (c.split_at.ensures.back ∙ ap (drop c.args.at) c.as_bytes.ensures.value) c.module_length-size.ensures c.split_at-2.ensures.back (sym c.begins_with.ensures ∙ c.if-not-begins_with.false) c.split_at-3.ensures.back
-      (sym c.begins_with_name.ensures ∙ c.if-not-begins_with_name.false) c.name_length-length.ensures c.split_at-4.ensures.front c.split_at-4.ensures.back (sym c.is_reserved.ensures ∙ c.if-is_reserved.false) c.call_mark-mark.ensures in
+    (c.split_at.ensures.back ∙ ap (drop c.args.at) c.as_bytes.ensures.value) c.module_length-size.ensures c.split_at-2.ensures.back (sym c.begins_with.ensures ∙ c.if-not-begins_with.false) c.split_at-3.ensures.back
+    (sym c.begins_with_name.ensures ∙ c.if-not-begins_with_name.false) c.name_length-length.ensures c.split_at-4.ensures.front c.split_at-4.ensures.back (sym c.is_reserved.ensures ∙ c.if-is_reserved.false) c.call_mark-mark.ensures in
     front_from bs (full_of bs) (c.module_length-size.result + (1 + (c.name_length-length.result + c.call_mark-mark.result))) (module_front bs f.front) f.full
 
 pub returns : goal.returns
@@ -46,7 +46,7 @@ returns c =
     let bs = drop c.args.at c.args.text.now in
     let n = c.module_length-size.result + (1 + (c.name_length-length.result + c.call_mark-mark.result)) in
     let f = found (drop c.args.at c.args.text.now) c.split_at.result.1.now c.split_at-2.result.1.now c.split_at-3.result.1.now c.split_at-4.result.0.now c.split_at-4.result.1.now c.module_length-size.result c.name_length-length.result c.call_mark-mark.result
-      (c.split_at.ensures.back ∙ ap (drop c.args.at) c.as_bytes.ensures.value) c.module_length-size.ensures c.split_at-2.ensures.back (sym c.begins_with.ensures ∙ c.if-not-begins_with.false) c.split_at-3.ensures.back
-      (sym c.begins_with_name.ensures ∙ c.if-not-begins_with_name.false) c.name_length-length.ensures c.split_at-4.ensures.front c.split_at-4.ensures.back (sym c.is_reserved.ensures ∙ c.if-is_reserved.false) c.call_mark-mark.ensures in
+    (c.split_at.ensures.back ∙ ap (drop c.args.at) c.as_bytes.ensures.value) c.module_length-size.ensures c.split_at-2.ensures.back (sym c.begins_with.ensures ∙ c.if-not-begins_with.false) c.split_at-3.ensures.back
+    (sym c.begins_with_name.ensures ∙ c.if-not-begins_with_name.false) c.name_length-length.ensures c.split_at-4.ensures.front c.split_at-4.ensures.back (sym c.is_reserved.ensures ∙ c.if-is_reserved.false) c.call_mark-mark.ensures in
     let name : c.in_ok-name.name ≡ full_of bs = c.in_ok-name.ensures ∙ front_first bs (full_of bs) n (module_front bs f.front) f.full in
     c.sized-2.ensures ∙ cut_eq (Function c.args.at c.in_ok-name.name) (Function c.args.at (full_of bs)) n (length (full_of bs)) (ap (Function c.args.at) name) f.full ∙ sym (module_called c.args.at bs f.front f.named f.free)

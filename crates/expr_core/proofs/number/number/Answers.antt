@@ -14,10 +14,10 @@ returns c =
     let d : c.split_at.result.0.now ≡ digits_of bs = c.split_at.ensures.front ∙ ap (λ n. take n bs) c.digits_length-size.ensures ∙ digits_front bs in
     let v : c.value_of.result ≡ fitting (value_of 0 (digits_of bs)) = c.value_of.ensures ∙ ap (λ x. fitting (value_of 0 x)) d in
     elim c.match-value_of.branch [
-      in-Some w ↦ (
-        let s : fitting (value_of 0 (digits_of bs)) ≡ Some w.in-Some.value = sym v ∙ w.in-Some.is in
-        cut_eq _ (number_token (fitting (value_of 0 (digits_of bs)))) _ (length (digits_of bs)) (w.token-is ∙ ap (λ z. Number z) (fits_signed _ _ s) ∙ ap number_token (sym s)) c.digits_length-size.ensures)
+      | in-Some w ↦ (
+          let s : fitting (value_of 0 (digits_of bs)) ≡ Some w.in-Some.value = sym v ∙ w.in-Some.is in
+          cut_eq _ (number_token (fitting (value_of 0 (digits_of bs)))) _ (length (digits_of bs)) (w.token-is ∙ ap (λ z. Number z) (fits_signed _ _ s) ∙ ap number_token (sym s)) c.digits_length-size.ensures)
       | in-None w ↦ (
-        let s : fitting (value_of 0 (digits_of bs)) ≡ None = sym v ∙ w.in-None.is in
-        cut_eq _ (number_token (fitting (value_of 0 (digits_of bs)))) _ (length (digits_of bs)) (w.token-is ∙ ap number_token (sym s)) c.digits_length-size.ensures)
+          let s : fitting (value_of 0 (digits_of bs)) ≡ None = sym v ∙ w.in-None.is in
+          cut_eq _ (number_token (fitting (value_of 0 (digits_of bs)))) _ (length (digits_of bs)) (w.token-is ∙ ap number_token (sym s)) c.digits_length-size.ensures)
     ]

@@ -1,5 +1,6 @@
-use Rattle.std.proofs.Common.{◌≡◌, ◌+◌, ◌-◌, ◌++◌, [], ◌∷◌, false, take, drop, ℕ, List, refl, sym, ap, ◌∙◌, subst}
+use Rattle.std.proofs.Common.{◌≡◌, ◌+◌, ◌-◌, ◌++◌, [], ◌∷◌, false, take, drop, ℕ, List, refl, sym, ap, ◌∙◌, subst, arith}
 use Rattle.std.specs.List.{prefix_len}
+use Rattle.std.specs.Str.{IsCharBoundary}
 use Rattle.std.proofs.lemmas.List.{drop-drop}
 use Rattle.expr_core.specs.declared.token.Piece.{Piece}
 use Rattle.expr_core.specs.Tokens.{piece_from, no_piece}
@@ -26,8 +27,8 @@ more-preserved c =
     let text_so_far : (c.more.out ++ take n (drop at text)) ++ c.in-Some.byte ∷ [] ≡ c.push_mark.new.out = ap (λ l. l ++ c.in-Some.byte ∷ []) (sym c.in_ok-at.ensures.added) ∙ sym c.in_ok-push_mark-in-Some.ensures in
     subst (Going text c.args.from (c.in_ok-at.at + c.in-Some.size)) text_so_far (subst (λ i. Going text c.args.from i ((c.more.out ++ take n (drop at text)) ++ c.in-Some.byte ∷ [])) place g)
 
-pub returns : goal.returns
-returns c =
+pub returns-clause-value : goal.returns-clause-value
+returns-clause-value c =
     let text = c.args.text.now in
     let at = c.more.at in
     let n = prefix_len is_plain (drop at text) in
@@ -36,3 +37,8 @@ returns c =
     ap (λ l. let p : Piece = record { text = l; size = c.in_ok-at.at - c.args.from } in p) c.in_ok-at.ensures.added
     ∙ ap (λ i. let p : Piece = record { text = c.more.out ++ take n (drop at text); size = i - c.args.from } in p) c.in_ok-at.ensures.end
     ∙ going_end text c.args.from at n c.more.out c.more.invariant refl e
+
+pub returns-clause-within : goal.returns-clause-within
+returns-clause-within c =
+    let cut : IsCharBoundary c.args.text.now c.in_ok-at.at = c.in_ok-at.ensures.cut in
+    omega (arith, c.more.invariant.order, c.in_ok-at.ensures.end, cut.0)
