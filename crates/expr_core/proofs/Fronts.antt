@@ -8,14 +8,15 @@ use Rattle.std.specs.Char.{is_ascii_uppercase, is_ascii_alphanumeric}
 use Rattle.std.specs.Cmp.Lexicographic.{same_text}
 use Rattle.std.proofs.lemmas.Bool.{eqb-true}
 use Rattle.std.proofs.lemmas.Bool.Decides.{leb_tells, nat_tests}
-use Rattle.std.proofs.lemmas.List.{take-append-drop, get_or-take, get_or-drop}
+use Rattle.std.proofs.lemmas.List.{take-append-drop, get_or-take, get_or-drop, drop-drop}
 use Rattle.std.proofs.lemmas.Str.{IsAscii-append, IsCharBoundary-before_ascii, IsCharBoundary-after_ascii}
 use Rattle.std.proofs.lemmas.Str.Ascii.{IsAscii-nil}
 use Rattle.std.proofs.Math.Seq.{take-append_seam, drop-append_seam}
 use Rattle.expr_core.specs.declared.token.Token.{Token}
 use Rattle.expr_core.specs.declared.token.Cut.{Cut}
+use Rattle.expr_core.specs.declared.token.Near.{Near}
 use Rattle.expr_core.specs.declared.token.Token.TheVariants.{Word, Function, Atom, Colon, Foreign}
-use Rattle.expr_core.specs.Tokens.{begins_name, in_name, first_is, begins, name_of, is_reserved, call_mark, atom_mark, word_or_function, module_goes_on, module_of, module_word, colon, cut}
+use Rattle.expr_core.specs.Tokens.{begins_name, in_name, first_is, begins, name_of, is_reserved, call_mark, atom_mark, word_or_function, module_goes_on, module_of, module_word, colon, sign, cut}
 
 -- A text begins with this ASCII text.
 pub record Front (bs l : List ℕ) : Type 0 where
@@ -240,3 +241,19 @@ atom_found bs rest name after size mark r s n a u k b m =
       named = sym (ap (first_is begins_name) r) ∙ b;
       full = omega (arith, s', m', length-append (name_of bs) (atom_mark (behind_name bs)));
     }
+
+-- a brace is ASCII
+pub brace_ascii : (text : List ℕ) (at : ℕ) → begins (codes "}") (drop at text) ≡ true → get_or text at 0 < 128
+brace_ascii text at h =
+    let f = begins_front (codes "}") (drop at text) (ascii_one 125 (omega arith)) h in
+    let a : IsAscii (take 1 (drop at text)) = front_from (drop at text) (codes "}") 1 f refl in
+    let e : at + 0 ≡ at = omega arith in
+    subst (λ i. get_or text i 0 < 128) e (byte_at text at 1 0 (omega arith) a)
+
+-- a colon is told by what stands behind it
+pub colon_sign : (near : Near) (part : Bool) (text : List ℕ) (at : ℕ) → begins (codes "(") (drop at text) ≡ false → begins (codes "[") (drop at text) ≡ false → begins (codes ".") (drop at text) ≡ false → begins (codes ":") (drop at text) ≡ true
+    → colon (drop (at + 1) text) ≡ sign near part (drop at text)
+colon_sign near part text at h k l m = ap colon (sym (drop-drop 1 at text)) ∙ sym (choose (begins (codes "(") (drop at text)) (begins (codes "[") (drop at text)) (begins (codes ".") (drop at text)) (begins (codes ":") (drop at text)) _ _ _ (colon (drop 1 (drop at text))) _ h k l m)
+  where
+    choose : (x y z w : Bool) (a b d e f : Cut) → x ≡ false → y ≡ false → z ≡ false → w ≡ true → (if x then a else if y then b else if z then d else if w then e else f) ≡ e
+    choose x y z w a b d e f h k l m = rw (h, k, l, m) refl

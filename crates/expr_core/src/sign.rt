@@ -166,3 +166,36 @@ fn part_end(alloc: Global, text: &str, at: usize) -> Result<Cut, OutOfMemory>
     let size = piece.size + 1;
     Ok(sized(Token::PartClosing(piece.text), size))
 }
+
+/// What begins with a sign, or with a byte that begins no token.
+pub(crate) fn sign(
+    alloc: Global,
+    text: &str,
+    at: usize,
+    near: Near,
+    part: bool,
+) -> Result<Cut, OutOfMemory>
+    requires within { at < length text.now }
+    ensures { IfOk result (λ c. c ≡ sign near part (drop at text.now)) }
+{
+    let rest = text.as_bytes().split_at(at).1;
+    if begins_with(rest, b"(") {
+        return Ok(sized(round(near), 1));
+    }
+    if begins_with(rest, b"[") {
+        return Ok(sized(square(near), 1));
+    }
+    if begins_with(rest, b".") {
+        return Ok(sized(dot(near), 1));
+    }
+    if begins_with(rest, b":") {
+        return colon(alloc, text, at + 1);
+    }
+    if !begins_with(rest, b"}") {
+        return Ok(by_table(rest));
+    }
+    if part {
+        return part_end(alloc, text, at);
+    }
+    Ok(sized(Token::Closing(Bracket::Curly), 1))
+}
