@@ -17,3 +17,5 @@ pub mod PatternExact
 pub mod Lexes
 pub mod Fronts
 pub mod PieceFacts
+pub mod Passing
+pub mod Firsts

@@ -3,12 +3,15 @@
 
 mod byte;
 mod fault;
+mod lexer;
 mod module;
 mod number;
+mod opening;
 mod piece;
 mod sign;
 mod token;
 mod word;
 
 pub use fault::{ExprFault, ExprKind};
-pub use token::{Bracket, Placed, Token};
+pub use lexer::{Tokens, lex};
+pub use token::{Bracket, Opened, Opening, Placed, Token};
