@@ -18,4 +18,3 @@ pub mod Lexes
 pub mod Fronts
 pub mod PieceFacts
 pub mod Passing
-pub mod Firsts

@@ -9,7 +9,7 @@ use Rattle.expr_core.specs.declared.token.Near.{Near}
 use Rattle.expr_core.specs.declared.token.Opened.{Opened}
 use Rattle.expr_core.specs.declared.lexer.Lexer.{Lexer}
 use Rattle.expr_core.specs.Tokens.{first_token, in_text, in_part, near_of, placed, opened_by, tokens_from, placed_tokens, left_open}
-use Rattle.expr_core.specs.Lexing.{innermost, in_quoted, in_parted, Going, Steps}
+use Rattle.expr_core.specs.Lexing.{innermost, in_quoted, in_parted, next_cut, Going, Steps}
 use Rattle.expr_core.proofs.Lexes.{head_of}
 
 -- What stands innermost.
@@ -84,25 +84,44 @@ opened_append : (os : List Opened) (a b : List Placed) → opened_by os (a ++ b)
 opened_append os [] b = refl
 opened_append os (p ∷ a) b = opened_append _ a b
 
-pub stepped : (text : List ℕ) (l m : Lexer) (c : Cut) → l.at < length text → c ≡ first_token (in_text (reverse l.openings)) l.at l.near (in_part (reverse l.openings)) (get_or text l.at 0) (drop (l.at + 1) text)
-    → l.at < m.at → m.at ≤ length text → (l.at + 1 + (c.size - 1) ≤ length text → m.at ≡ l.at + 1 + (c.size - 1)) → (length text < l.at + 1 + (c.size - 1) → m.at ≡ length text)
-    → m.list ≡ l.list ++ placed l.at c.token → reverse m.openings ≡ opened_by (reverse l.openings) (placed l.at c.token) → m.near ≡ near_of c.token → Steps text l m
-stepped text l m c h e f w k s list openings near = record {
-  forth = f;
-  going = λ g. record {
-    within = w;
-    same = g.same ∙ ap (λ x. l.list ++ x) (advance text l.at m.at l.near (reverse l.openings) c h e k s) ∙ sym (append_assoc l.list (placed l.at c.token) (tokens_from m.at (near_of c.token) (opened_by (reverse l.openings) (placed l.at c.token)) 0 (drop m.at text)))
-    ∙ ap (λ x. x ++ tokens_from m.at (near_of c.token) (opened_by (reverse l.openings) (placed l.at c.token)) 0 (drop m.at text)) (sym list)
-    ∙ ap (λ x. m.list ++ tokens_from m.at (near_of c.token) x 0 (drop m.at text)) (sym openings)
-    ∙ ap (λ x. m.list ++ tokens_from m.at x (reverse m.openings) 0 (drop m.at text)) (sym near);
-    left = ap (opened_by []) list ∙ opened_append [] l.list (placed l.at c.token) ∙ ap (λ os. opened_by os (placed l.at c.token)) g.left ∙ sym openings;
-  };
-}
+pub stepped : (text : List ℕ) (len : ℕ) (l m : Lexer) (c : Cut) → len ≡ length text → l.at < length text → c ≡ next_cut text l → m.list ≡ l.list ++ placed l.at c.token → reverse m.openings ≡ opened_by (reverse l.openings) (placed l.at c.token) → m.near ≡ near_of c.token
+    → l.at < m.at → m.at ≤ len → (l.at + 1 + (c.size - 1) ≤ len → m.at ≡ l.at + 1 + (c.size - 1)) → (len < l.at + 1 + (c.size - 1) → m.at ≡ len) → Steps text l m
+stepped text len l m c n h e list openings near f w k s =
+    let k' : l.at + 1 + (c.size - 1) ≤ length text → m.at ≡ l.at + 1 + (c.size - 1) = λ i. k (omega (arith, i, n)) in
+    let s' : length text < l.at + 1 + (c.size - 1) → m.at ≡ length text = λ i. s (omega (arith, i, n)) ∙ n in
+    let w' : m.at ≤ length text = omega (arith, w, n) in
+    record {
+      forth = f;
+      going = λ g. record {
+        within = w';
+        same = g.same ∙ ap (λ x. l.list ++ x) (advance text l.at m.at l.near (reverse l.openings) c h e k' s') ∙ sym (append_assoc l.list (placed l.at c.token) (tokens_from m.at (near_of c.token) (opened_by (reverse l.openings) (placed l.at c.token)) 0 (drop m.at text)))
+            ∙ ap (λ x. x ++ tokens_from m.at (near_of c.token) (opened_by (reverse l.openings) (placed l.at c.token)) 0 (drop m.at text)) (sym list)
+            ∙ ap (λ x. m.list ++ tokens_from m.at (near_of c.token) x 0 (drop m.at text)) (sym openings)
+            ∙ ap (λ x. m.list ++ tokens_from m.at x (reverse m.openings) 0 (drop m.at text)) (sym near);
+        left = ap (opened_by []) list ∙ opened_append [] l.list (placed l.at c.token) ∙ ap (λ os. opened_by os (placed l.at c.token)) g.left ∙ sym openings;
+      };
+    }
 
--- The end.
+-- The beginning and the end.
+
+pub started : (text : List ℕ) (list : List Placed) (openings : List Opened) → list ≡ [] → openings ≡ [] → Going text (record { list = list; openings = openings; near = record { value = false; name = false }; at = 0 })
+started text list openings h k = record {
+  within = omega arith;
+  same = sym (ap (λ l. l ++ tokens_from 0 (near_of None) (reverse openings) 0 text) h ∙ ap (λ os. tokens_from 0 (near_of None) (reverse os) 0 text) k);
+  left = ap (opened_by []) h ∙ sym (ap reverse k);
+}
 
 pub all_read : (text : List ℕ) (l : Lexer) → Going text l → length text ≤ l.at → l.list ≡ placed_tokens text
 all_read text l g h = sym (g.same ∙ ap (λ x. l.list ++ x) (none_left l.at l.near (reverse l.openings) text h) ∙ append-nil l.list)
 
 pub all_left : (text : List ℕ) (l : Lexer) → Going text l → length text ≤ l.at → reverse l.openings ≡ left_open text
 all_left text l g h = sym g.left ∙ ap (opened_by []) (all_read text l g h)
+
+-- the token at a place, by what is innermost there
+pub next_by : (text : List ℕ) (l : Lexer) (quoted part : Bool) (inner : Option Opened) (openings : List Opened) → openings ≡ l.openings → inner ≡ innermost (reverse openings) → quoted ≡ in_quoted inner → part ≡ in_parted inner
+    → first_token quoted l.at l.near part (get_or text l.at 0) (drop (l.at + 1) text) ≡ next_cut text l
+next_by text l quoted part inner openings o i q p =
+    let i' : inner ≡ innermost (reverse l.openings) = i ∙ ap (λ os. innermost (reverse os)) o in
+    let q' : quoted ≡ in_text (reverse l.openings) = q ∙ ap in_quoted i' ∙ quoted_innermost (reverse l.openings) in
+    let p' : part ≡ in_part (reverse l.openings) = p ∙ ap in_parted i' ∙ parted_innermost (reverse l.openings) in
+    ap (λ x. first_token x l.at l.near part (get_or text l.at 0) (drop (l.at + 1) text)) q' ∙ ap (λ x. first_token (in_text (reverse l.openings)) l.at l.near x (get_or text l.at 0) (drop (l.at + 1) text)) p'

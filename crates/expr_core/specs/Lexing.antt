@@ -1,10 +1,12 @@
 -- How far a text is read into tokens.
-use Rattle.std.specs.Prelude.{◌≡◌, ℕ, ◌<◌, ◌≤◌, List, [], ◌∷◌, ◌++◌, length, drop, reverse, Bool, false, Option, Some, None}
+use Rattle.std.specs.Prelude.{◌≡◌, ℕ, ◌+◌, ◌<◌, ◌≤◌, List, [], ◌∷◌, ◌++◌, length, drop, reverse, Bool, false, Option, Some, None}
+use Rattle.std.specs.List.{slice_index}
 use Rattle.expr_core.specs.declared.token.Token.{Token}
+use Rattle.expr_core.specs.declared.token.Cut.{Cut}
 use Rattle.expr_core.specs.declared.token.Placed.{Placed}
 use Rattle.expr_core.specs.declared.token.Opened.{Opened}
 use Rattle.expr_core.specs.declared.lexer.Lexer.{Lexer}
-use Rattle.expr_core.specs.Tokens.{is_quoted, is_parted, opened_by, tokens_from, placed_tokens}
+use Rattle.expr_core.specs.Tokens.{first_token, in_text, in_part, is_quoted, is_parted, opened_by, tokens_from, placed_tokens}
 
 abbrev pub innermost : List Opened → Option Opened
 innermost [] = None
@@ -21,6 +23,10 @@ in_parted (Some o) = is_parted o.kind
 
 abbrev pub at_place : ℕ → Token → Placed
 at_place at t = record { at = at; token = t }
+
+-- what stands at the next byte
+abbrev pub next_cut : List ℕ → Lexer → Cut
+next_cut text l = first_token (in_text (reverse l.openings)) l.at l.near (in_part (reverse l.openings)) (slice_index text l.at) (drop (l.at + 1) text)
 
 -- The tokens so far and those of what follows are the tokens of the text, and the openings are those that the tokens so far leave.
 pub record Going (text : List ℕ) (l : Lexer) : Type 0 where

@@ -1,8 +1,8 @@
 //! The tokens of texts.
 ghost use Rattle.std.specs.Prelude.{◌≡◌, ◌<◌, ◌≤◌, ◌+◌, ◌-◌, ◌++◌, length, drop, reverse, IfOk, OnOk};
 ghost use Rattle.std.specs.List.{slice_index};
-ghost use Rattle.expr_core.specs.Tokens.{passed, behind_piece, beginning, token_by, first_token, placed, opened_by, placed_tokens, left_open};
-ghost use Rattle.expr_core.specs.Lexing.{innermost, Steps};
+ghost use Rattle.expr_core.specs.Tokens.{passed, behind_piece, beginning, token_by, first_token, near_of, placed, opened_by, placed_tokens, left_open};
+ghost use Rattle.expr_core.specs.Lexing.{innermost, next_cut, Steps};
 
 use crate::byte::{begins_name, begins_with, is_white};
 use crate::module::module_word;
@@ -148,20 +148,45 @@ fn add(lexer: &mut Lexer, token: Option<Token>) -> Result<(), OutOfMemory>
     }
 }
 
-// Reads on by a token, or a byte that is passed over.
-fn step(alloc: Global, text: &str, lexer: &mut Lexer) -> Result<(), OutOfMemory>
-    requires within { lexer.old.at < length text.now }
-    ensures { OnOk result (Steps text.now lexer.old lexer.new) }
+// Goes past what stands at the next byte.
+fn pass(lexer: &mut Lexer, cut: Cut, length: usize) -> Result<(), OutOfMemory>
+    requires { lexer.old.at < length }
+    ensures list { OnOk result (lexer.new.list ≡ lexer.old.list ++ placed lexer.old.at cut.token) }
+    ensures openings { OnOk result (reverse lexer.new.openings ≡ opened_by (reverse lexer.old.openings) (placed lexer.old.at cut.token)) }
+    ensures near { OnOk result (lexer.new.near ≡ near_of cut.token) }
+    ensures after { OnOk result (lexer.old.at < lexer.new.at) }
+    ensures within { OnOk result (lexer.new.at ≤ length) }
+    ensures fits { OnOk result (lexer.old.at + 1 + (cut.size - 1) ≤ length → lexer.new.at ≡ lexer.old.at + 1 + (cut.size - 1)) }
+    ensures short { OnOk result (length < lexer.old.at + 1 + (cut.size - 1) → lexer.new.at ≡ length) }
 {
-    let at = lexer.at;
+    let Cut { token, size } = cut;
+    let near = near_of(&token);
+    let end = end_of(lexer.at, size, length);
+    add(lexer, token)?;
+    lexer.near = near;
+    lexer.at = end;
+    Ok(())
+}
+
+// What stands at the next byte.
+fn next(alloc: Global, text: &str, lexer: &Lexer) -> Result<Cut, OutOfMemory>
+    requires { lexer.now.at < length text.now }
+    ensures { IfOk result (λ c. c ≡ next_cut text.now lexer.now) }
+{
     let inner = innermost(lexer.openings.as_slice());
     let quoted = in_quoted(inner);
     let part = in_parted(inner);
-    let Cut { token, size } = token_at(alloc, text, at, lexer.near, quoted, part)?;
-    let near = near_of(&token);
-    add(lexer, token)?;
-    lexer.near = near;
-    lexer.at = end_of(at, size, text.len());
+    token_at(alloc, text, lexer.at, lexer.near, quoted, part)
+}
+
+// Reads on by a token, or a byte that is passed over.
+fn step(alloc: Global, text: &str, lexer: &mut Lexer) -> Result<(), OutOfMemory>
+    requires { lexer.old.at < length text.now }
+    ensures { OnOk result (Steps text.now lexer.old lexer.new) }
+{
+    let cut = next(alloc, text, lexer)?;
+    let length = text.len();
+    pass(lexer, cut, length)?;
     Ok(())
 }
 

@@ -4,6 +4,8 @@
 mod byte;
 mod fault;
 mod lexer;
+#[cfg(test)]
+mod lexer_tests;
 mod module;
 mod number;
 mod opening;
