@@ -16,3 +16,5 @@ pub mod PatternShapes
 pub mod PatternExact
 pub mod Lexes
 pub mod Fronts
+pub mod Forms
+pub mod Stacks

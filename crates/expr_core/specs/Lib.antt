@@ -7,3 +7,4 @@ pub mod Machine
 pub mod PatternGrammar
 pub mod PatternMachine
 pub mod Answers
+pub mod Seen

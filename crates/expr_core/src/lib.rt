@@ -2,10 +2,15 @@
 #![tactic(auto)]
 
 mod byte;
+mod call;
 mod fault;
+mod frame;
+mod functions;
 mod module;
 mod number;
+mod pile;
 mod token;
+mod value;
 mod word;
 
 pub use fault::{ExprFault, ExprKind};
