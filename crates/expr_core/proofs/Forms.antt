@@ -1,5 +1,5 @@
 -- What the forms of expressions stand for.
-use Rattle.std.proofs.Common.{◌≡◌, ℕ, ℤ, Bool, List, [], ◌∷◌, ◌++◌, map, length, Some, None, Box, refl, sym, ap, ◌∙◌}
+use Rattle.std.proofs.Common.{◌≡◌, ◌+◌, arith, ℕ, ℤ, Bool, List, [], ◌∷◌, ◌++◌, map, length, Some, None, Box, refl, sym, ap, ◌∙◌}
 use Rattle.std.proofs.lemmas.List.{map-append, length-map}
 use Rattle.std.specs.declared.alloc.Global.{Global}
 use Rattle.ast_core.specs.declared.operators.UnaryOp.{UnaryOp}
@@ -186,3 +186,13 @@ call_seen name es = sees_call (known (function_of name (length es))) es ∙ ap (
 
 pub unknown_seen : (at : ℕ) (name : List ℕ) (es : List Expr) → if_unknown at (function_of name (length es)) ≡ unknown_call at name (map expr_view es)
 unknown_seen at name es = ap (λ n. if_unknown at (function_of name n)) (sym (length-map es expr_view))
+
+pub pipe_seen : (name : List ℕ) (l : model.Expr) (es : List Expr) → model.call_of (known (function_of name (length es + 1))) (expr l (exprs_of (map expr_view es))) ≡ call_with name (l ∷ map expr_view es)
+pipe_seen name l es =
+    let n : length es + 1 ≡ length (l ∷ map expr_view es) = omega (arith, length-map es expr_view) in
+    ap (λ k. model.call_of (known (function_of name k)) (expr l (exprs_of (map expr_view es)))) n
+
+pub pipe_unknown : (at : ℕ) (name : List ℕ) (l : model.Expr) (es : List Expr) → if_unknown at (function_of name (length es + 1)) ≡ unknown_call at name (l ∷ map expr_view es)
+pipe_unknown at name l es =
+    let n : length es + 1 ≡ length (l ∷ map expr_view es) = omega (arith, length-map es expr_view) in
+    ap (λ k. if_unknown at (function_of name k)) n

@@ -18,3 +18,4 @@ pub mod Lexes
 pub mod Fronts
 pub mod Forms
 pub mod Stacks
+pub mod Closes

@@ -1,6 +1,6 @@
 -- Frames as they lie in memory.
 use Rattle.std.proofs.Common.{◌≡◌, ℕ, ◌+◌, ◌-◌, ◌≤◌, List, [], ◌∷◌, ◌++◌, map, length, Bool, true, false, refl, sym, ap, ◌∙◌, arith, length-append, subst}
-use Rattle.std.specs.Prelude.{slice_get, Option, Some, None, zero, suc, nat_le, if◌then◌else◌}
+use Rattle.std.specs.Prelude.{slice_get, Option, Some, None, option_map, zero, suc, nat_le, if◌then◌else◌}
 use Rattle.expr_core.specs.declared.value.Style.TheVariants.{Bare, Inside}
 use Rattle.expr_core.specs.declared.frame.Frame.{Frame}
 use Rattle.expr_core.specs.declared.frame.Frame.TheVariants as frame
@@ -113,3 +113,7 @@ top_last (f ∷ g ∷ fs) (suc n) e = top_last (g ∷ fs) n (omega arith) ∙ sy
 pub top_none : (fs : List Frame) → fs ≡ [] → None ≡ first_of (stack fs)
 top_none [] e = refl
 top_none (f ∷ fs) e = cc
+
+pub need_first : (fs : List Frame) → machine.need (seen fs) ≡ machine.need_under (option_map frame_view (first_of fs))
+need_first [] = refl
+need_first (f ∷ fs) = refl

@@ -8,3 +8,4 @@ pub mod PatternGrammar
 pub mod PatternMachine
 pub mod Answers
 pub mod Seen
+pub mod Gives

@@ -153,3 +153,23 @@ led (Some m) fs = Some (state_of m fs)
 -- a depth and its frames
 abbrev pub Counts : ℕ → List Frame → Type 0
 Counts d fs = (d ≡ machine.nest (seen (stack fs))) × (d ≤ length fs + length fs)
+
+-- whether this bracket ends that `if`
+abbrev pub ends_choice : Bracket → Style → Bool
+ends_choice Round Inside = true
+ends_choice Round Bare = false
+ends_choice Square s = false
+ends_choice Curly s = false
+
+abbrev pub is_test : Frame → Bool
+is_test frame.Test = true
+is_test (frame.Operand o l) = false
+is_test (frame.Ahead o) = false
+is_test frame.Paren = false
+is_test (frame.Indexed v) = false
+is_test (frame.Items o es u) = false
+is_test (frame.Putting ps u) = false
+is_test (frame.Valued ps u k) = false
+is_test frame.InnerTest = false
+is_test (frame.Yes s t) = false
+is_test (frame.No s t y) = false

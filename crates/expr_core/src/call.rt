@@ -60,6 +60,7 @@ fn piped(
 }
 
 // The value of a call behind `|>`.
+#[tactic(auto, using(crate::proofs::Forms::pipe_seen, crate::proofs::Forms::pipe_unknown))]
 fn finish_pipe(
     alloc: Global,
     left: Value,

@@ -5,7 +5,7 @@ use ast_core::{BinaryOp, Expr, Pair, TextPart, UnaryOp};
 use text_core::{Seq, Text};
 
 /// What an open list of items is.
-#[derive(Debug, Drop)]
+#[derive(Drop)]
 pub(crate) enum Opener {
     Listing,
     Tupling,
@@ -15,7 +15,7 @@ pub(crate) enum Opener {
 }
 
 /// What is begun and waits for more. Lists have the first unknown call of what they hold beside them.
-#[derive(Debug, Drop)]
+#[derive(Drop)]
 pub(crate) enum Frame {
     Operand(BinaryOp, Value),
     Ahead(UnaryOp),
@@ -33,7 +33,7 @@ pub(crate) enum Frame {
 }
 
 /// What comes next.
-#[derive(Debug, Drop)]
+#[derive(Drop)]
 pub(crate) enum Mode {
     Want,
     Have(Value),

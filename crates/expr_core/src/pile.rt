@@ -40,7 +40,7 @@ fn level(frame: &Frame) -> usize
 }
 
 /// What is begun and waits for more, the innermost first.
-#[derive(Debug, Drop)]
+#[derive(Drop)]
 pub(crate) struct Pile {
     frames: Seq<Frame>,
     depth: usize,
@@ -51,7 +51,14 @@ impl Model for Pile {
     ghost use Rattle.expr_core.specs.declared.frame.Frame.{Frame};
     ghost use Rattle.expr_core.specs.Seen.{stack, Counts};
 
+    ghost use Rattle.std.specs.Coded.{codes};
+    ghost use Rattle.ast_core.specs.contracts.expr.Expr as e;
+    ghost use Rattle.ast_core.specs.contracts.expr.Pair as p;
+    ghost use Rattle.ast_core.specs.contracts.expr.TextPart as t;
+
     ghost Value = { List Frame };
+
+    ghost coded = { Prim.hlevel (codes, e.the_row.coded, p.the_row.coded, t.the_row.coded) };
 
     ghost view = { λ p. stack p.frames };
 

@@ -1,5 +1,5 @@
 //! What was read, and how it is put together.
-ghost use Rattle.std.specs.Prelude.{◌≡◌, ◌∷◌, ◌++◌, [], IfOk, map, None};
+ghost use Rattle.std.specs.Prelude.{◌≡◌, ◌≤◌, ◌∷◌, ◌++◌, [], IfOk, map, None};
 ghost use Rattle.ast_core.specs.Syntax as model;
 ghost use Rattle.ast_core.specs.ExprView.{expr_view, exprs_of, path_of};
 ghost use Rattle.ast_core.specs.NamesIn.{part_view, pair_view, step_view};
@@ -14,14 +14,14 @@ use std::alloc::Global;
 use text_core::{OutOfMemory, Seq, Text};
 
 /// An expression that was read, and the byte of its first call that names no function.
-#[derive(Debug, Drop)]
+#[derive(Drop)]
 pub(crate) struct Meant {
     pub expr: Expr,
     pub unknown: Option<usize>,
 }
 
 /// The name of a call, and its byte.
-#[derive(Debug, Drop)]
+#[derive(Drop)]
 pub(crate) struct Callee {
     pub at: usize,
     pub name: Text,
@@ -29,7 +29,7 @@ pub(crate) struct Callee {
 
 /// What was read, how tightly it is held together, whether it begins with a denial, and its name where it may be that
 /// of a call.
-#[derive(Debug, Drop)]
+#[derive(Drop)]
 pub(crate) struct Value {
     pub meant: Meant,
     pub holds: u8,
@@ -38,7 +38,7 @@ pub(crate) struct Value {
 }
 
 /// An `if` without parentheses around its parts, or with them.
-#[derive(Clone, Copy, Debug, PartialEq, Eq)]
+#[derive(Clone, Copy)]
 pub(crate) enum Style {
     Bare,
     Inside,
@@ -46,7 +46,8 @@ pub(crate) enum Style {
 
 /// How tightly an operator binds.
 pub(crate) fn binds(op: BinaryOp) -> u8
-    ensures { result ≡ binds op }
+    ensures value { result ≡ binds op }
+    ensures small { result ≤ 9 }
 {
     match op {
         BinaryOp::OrElse => 1,
