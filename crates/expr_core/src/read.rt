@@ -2,9 +2,9 @@
 ghost use Rattle.std.specs.Prelude.{◌≡◌, ℕ, ◌+◌, ◌≤◌, IfOk, nat_le, option_map};
 ghost use Rattle.expr_core.specs.Grammar as grammar;
 ghost use Rattle.expr_core.specs.Machine as machine;
-ghost use Rattle.expr_core.specs.Outcome.{at_fault, outcome_of};
+ghost use Rattle.expr_core.specs.Outcome.{outcome_of};
 ghost use Rattle.expr_core.specs.Seen.{value_view, meant_view, style_view, seen, state_of};
-ghost use Rattle.expr_core.specs.Gives.{Gives, Faults, spelled};
+ghost use Rattle.expr_core.specs.Gives.{Gives, fault_of, spelled};
 
 use crate::frame::Mode;
 use crate::pile::Pile;
@@ -37,9 +37,9 @@ impl From<OutOfMemory> for TokenFault {
     }
 }
 
-// No token goes on like this.
-fn fault_at(token: &Token, at: usize) -> TokenFault
-    ensures { Faults {A = grammar.Meant} result (at_fault token.now at) }
+/// No token goes on like this.
+pub(crate) fn fault_at(token: &Token, at: usize) -> TokenFault
+    ensures { result ≡ fault_of token.now at }
 {
     match token {
         Token::BadNumber => TokenFault::BadNumber(at),
