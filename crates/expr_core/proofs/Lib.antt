@@ -19,3 +19,7 @@ pub mod Fronts
 pub mod Forms
 pub mod Stacks
 pub mod Closes
+pub mod PatternForms
+pub mod Chains
+pub mod Plain
+pub mod Told

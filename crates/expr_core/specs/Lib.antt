@@ -9,3 +9,5 @@ pub mod PatternMachine
 pub mod Answers
 pub mod Seen
 pub mod Gives
+pub mod SeenPattern
+pub mod Gathers
