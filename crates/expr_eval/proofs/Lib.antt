@@ -1,0 +1,7 @@
+pub mod Numbers
+pub mod Views
+pub mod Results
+pub mod Chained
+pub mod Keys
+pub mod Listed
+pub mod Forms
