@@ -10,6 +10,8 @@ use Rattle.value_core.proofs.Order.{cons_at}
 use Rattle.ast_core.specs.declared.operators.BinaryOp.{BinaryOp}
 use Rattle.ast_core.specs.declared.operators.BinaryOp.TheVariants.{OrElse, Or, AndAlso, And}
 use Rattle.ast_core.specs.declared.operators.Function.{Function}
+use Rattle.ast_core.specs.declared.expr.Operand.{Operand}
+use Rattle.ast_core.specs.NamesIn.{operand_view}
 use Rattle.ast_core.specs.Syntax as syntax
 use Rattle.ast_core.specs.Syntax.{Exprs, expr}
 use Rattle.ast_core.specs.ExprView.{Step, field_step, index_step, path_of, left_chain, right_chain, pipes_of}
@@ -19,7 +21,8 @@ use Rattle.expr_eval.specs.declared.fault.EvalFault.{EvalFault}
 use Rattle.expr_eval.specs.declared.fault.EvalFault.TheVariants.{Raised, OutOfMemory}
 use Rattle.expr_eval.specs.Gives.{Gives}
 use Rattle.expr_eval.specs.Operands.{decides, boolean_in}
-use Rattle.expr_eval.specs.Chains.{chain, operand_on, step_on, call_on, right_on, back}
+use Rattle.expr_eval.specs.declared.right_chain.Waiting.{Waiting}
+use Rattle.expr_eval.specs.Chains.{chain, operand_on, step_on, call_on, right_on, back, waiting_view}
 use Rattle.expr_eval.proofs.Results.{then_is}
 
 chain_err : {X : Type 0} (f : X → model.Value → Res model.Value) (k : Raise) (xs : List X) → chain f (Err k) xs ≡ Err k
@@ -41,6 +44,10 @@ chain_stops to f g xs i x v OutOfMemory total h is so_far stop = tt
 pub chain_ends : {X Y : Type 0} (f : Y → model.Value → Res model.Value) (g : X → Y) (xs : List X) (i : ℕ) (v : model.Value) (total : Res model.Value) → length xs ≤ i
     → total ≡ chain f (Ok v) (map g (drop i xs)) → total ≡ Ok v
 chain_ends f g xs i v total h so_far = so_far ∙ ap (λ l. chain f (Ok v) (map g l)) (drop_all i xs h)
+
+pub chain_begins : {A X B : Type 0} (to : A → model.Value) (all : B → model.Value) (f : X → model.Value → Res model.Value) (r : Res model.Value) (xs : List X) (fault : EvalFault) → Gives to (Err fault) r → Gives all (Err fault) (chain f r xs)
+chain_begins to all f r xs (Raised k) stop = ap (λ q. chain f q xs) stop ∙ chain_err f k xs
+chain_begins to all f r xs OutOfMemory stop = tt
 
 -- the definition goes along the chain
 pub left_is : (env : Env) (e : syntax.Expr) (os : List (BinaryOp × syntax.Expr)) → eval_expr env (left_chain e os) ≡ chain (operand_on env) (eval_expr env e) os
@@ -108,3 +115,66 @@ back-snoc (x ∷ ws) w r = ap (λ s. then_do s (eval_binary x.0 x.1)) (back-snoc
 pub back_stops : {A : Type 0} (to : A → model.Value) (ws : List (BinaryOp × model.Value)) (r : Res model.Value) (fault : EvalFault) (total : Res model.Value) → total ≡ back ws r → Gives to (Err fault) r → Gives to (Err fault) total
 back_stops to ws r (Raised k) total so_far stop = so_far ∙ ap (back ws) stop ∙ back_err ws k
 back_stops to ws r OutOfMemory total so_far stop = tt
+
+-- ---- an operator and its right operand
+
+module _ (env : Env) (o : Operand) (op : BinaryOp) (e : syntax.Expr) (seen : operand_view o ≡ (op, e)) (v : model.Value) where
+  operand_is : operand_on env (operand_view o) v ≡ or_else_do (decided op v) (then_do (eval_expr env e) (eval_binary op v))
+  operand_is = ap (λ (q : BinaryOp × syntax.Expr). operand_on env q v) seen
+
+  pub operand_decided : decides op v ≡ Ok true → operand_on env (operand_view o) v ≡ Ok v
+  operand_decided h = operand_is ∙ decides_alone op v (then_do (eval_expr env e) (eval_binary op v)) h
+
+  pub operand_judged : {A B : Type 0} (to : A → Bool) (all : B → model.Value) (fault : EvalFault) → Gives to (Err fault) (decides op v) → Gives all (Err fault) (operand_on env (operand_view o) v)
+  operand_judged to all (Raised k) h = operand_is ∙ decides_raises op v (then_do (eval_expr env e) (eval_binary op v)) k h
+  operand_judged to all OutOfMemory h = tt
+
+  pub operand_stops : {A B : Type 0} (to : A → model.Value) (all : B → model.Value) (fault : EvalFault) → decides op v ≡ Ok false → Gives to (Err fault) (eval_expr env e) → Gives all (Err fault) (operand_on env (operand_view o) v)
+  operand_stops to all (Raised k) no_ h =
+      operand_is ∙ decides_nothing op v (then_do (eval_expr env e) (eval_binary op v)) no_ ∙ ap (λ r. then_do r (eval_binary op v)) h
+  operand_stops to all OutOfMemory no_ h = tt
+
+  pub operand_met : (w : model.Value) → decides op v ≡ Ok false → eval_expr env e ≡ Ok w → operand_on env (operand_view o) v ≡ eval_binary op v w
+  operand_met w no_ h =
+      operand_is ∙ decides_nothing op v (then_do (eval_expr env e) (eval_binary op v)) no_ ∙ ap (λ r. then_do r (eval_binary op v)) h
+
+-- ---- operators that group to the right
+
+module _ (env : Env) (os : List Operand) (i : ℕ) (o : Operand) (op : BinaryOp) (e : syntax.Expr) (ws : List (BinaryOp × model.Value)) (v : model.Value) (total : Res model.Value)
+    (h : i < length os) (is : o ≡ get_or os i o) (seen : operand_view o ≡ (op, e)) (so_far : total ≡ back ws (right_on env v (map operand_view (drop i os)))) where
+  right_here : total ≡ back ws (or_else_do (decided op v) (then_do (eval_expr env (right_chain e (map operand_view (drop (i + 1) os)))) (eval_binary op v)))
+  right_here =
+      so_far ∙ ap (λ l. back ws (right_on env v (map operand_view l))) (cons_at os i o h is)
+      ∙ ap (λ (q : BinaryOp × syntax.Expr). back ws (right_on env v (q ∷ map operand_view (drop (i + 1) os)))) seen
+
+  pub right_decided : decides op v ≡ Ok true → total ≡ back ws (Ok v)
+  right_decided alone = right_here ∙ ap (back ws) (decides_alone op v _ alone)
+
+  pub right_judged : {A B : Type 0} (to : A → Bool) (all : B → model.Value) (fault : EvalFault) → Gives to (Err fault) (decides op v) → Gives all (Err fault) total
+  right_judged to all (Raised k) stop = right_here ∙ ap (back ws) (decides_raises op v _ k stop) ∙ back_err ws k
+  right_judged to all OutOfMemory stop = tt
+
+  right_next : decides op v ≡ Ok false → total ≡ back ws (then_do (then_do (eval_expr env e) (λ w. right_on env w (map operand_view (drop (i + 1) os)))) (eval_binary op v))
+  right_next no_ =
+      right_here ∙ ap (back ws) (decides_nothing op v _ no_)
+      ∙ ap (λ r. back ws (then_do r (eval_binary op v))) (right_is env e (map operand_view (drop (i + 1) os)))
+
+  pub right_stops : {A B : Type 0} (to : A → model.Value) (all : B → model.Value) (fault : EvalFault) → decides op v ≡ Ok false → Gives to (Err fault) (eval_expr env e) → Gives all (Err fault) total
+  right_stops to all (Raised k) no_ stop =
+      right_next no_ ∙ ap (λ r. back ws (then_do (then_do r (λ w. right_on env w (map operand_view (drop (i + 1) os)))) (eval_binary op v))) stop ∙ back_err ws k
+  right_stops to all OutOfMemory no_ stop = tt
+
+  pub right_step : (w : model.Value) → decides op v ≡ Ok false → eval_expr env e ≡ Ok w → total ≡ back (ws ++ (op, v) ∷ []) (right_on env w (map operand_view (drop (i + 1) os)))
+  right_step w no_ ev =
+      right_next no_ ∙ ap (λ r. back ws (then_do (then_do r (λ u. right_on env u (map operand_view (drop (i + 1) os)))) (eval_binary op v))) ev
+      ∙ sym (back-snoc ws (op, v) (right_on env w (map operand_view (drop (i + 1) os))))
+
+pub right_ends : (env : Env) (os : List Operand) (i : ℕ) (ws : List (BinaryOp × model.Value)) (v : model.Value) (total : Res model.Value) → length os ≤ i
+    → total ≡ back ws (right_on env v (map operand_view (drop i os))) → total ≡ back ws (Ok v)
+right_ends env os i ws v total h so_far = so_far ∙ ap (λ l. back ws (right_on env v (map operand_view l))) (drop_all i os h)
+
+-- the last that waits, and its right operand
+pub taken : (all ws : List Waiting) (w : Waiting) (v : model.Value) (total : Res model.Value) → all ≡ ws ++ w ∷ [] → total ≡ back (map waiting_view all) (Ok v) → total ≡ back (map waiting_view ws) (eval_binary w.op (view w.left) v)
+taken all ws w v total is so_far =
+    so_far ∙ ap (λ l. back (map waiting_view l) (Ok v)) is ∙ ap (λ l. back l (Ok v)) (map-append waiting_view ws (w ∷ []))
+    ∙ back-snoc (map waiting_view ws) (waiting_view w) (Ok v)

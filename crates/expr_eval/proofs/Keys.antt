@@ -80,34 +80,37 @@ is_equal Greater e = cc
 -- an entry that comes again is not seen
 hidden : (k : List ℕ) (v : Value) (s r : Assigns) (w : Value) → lookup k r ≡ Some w → put_all (with_key k v s) r ≡ put_all s r
 hidden k v s no_assigns w h = absurd (let e : None ≡ Some w = h in cc)
-hidden k v s (assign l x r) w h = by (bytes_eq k l) refl h
+hidden k v s (assign l x r) w h = by (hidden k v (with_key l x s) r w) (bytes_eq k l) refl h
   where
-    by : (b : Bool) → bytes_eq k l ≡ b → (if b then Some x else lookup k r) ≡ Some w → put_all (with_key l x (with_key k v s)) r ≡ put_all (with_key l x s) r
-    by true is found =
+    by : (lookup k r ≡ Some w → put_all (with_key k v (with_key l x s)) r ≡ put_all (with_key l x s) r)
+        → (b : Bool) → bytes_eq k l ≡ b → (if b then Some x else lookup k r) ≡ Some w → put_all (with_key l x (with_key k v s)) r ≡ put_all (with_key l x s) r
+    by rest true is found =
         let same : k ≡ l = exact_bytes k l (is_equal (order k l) (is_eq-slice_cmp k l ∙ is)) in
         ap (λ t. put_all t r) (ap (λ m. with_key l x (with_key m v s)) same ∙ overwritten l v x s)
-    by false is found = ap (λ t. put_all t r) (swapped k l v x s is) ∙ hidden k v (with_key l x s) r w found
+    by rest false is found = ap (λ t. put_all t r) (swapped k l v x s is) ∙ rest found
 
 -- an entry of a new key may be put in before or after
 before_after : (k : List ℕ) (v : Value) (s r : Assigns) → lookup k r ≡ None → put_all (with_key k v s) r ≡ with_key k v (put_all s r)
 before_after k v s no_assigns h = refl
-before_after k v s (assign l x r) h = by (bytes_eq k l) refl h
+before_after k v s (assign l x r) h = by (before_after k v (with_key l x s) r) (bytes_eq k l) refl h
   where
-    by : (b : Bool) → bytes_eq k l ≡ b → (if b then Some x else lookup k r) ≡ None → put_all (with_key l x (with_key k v s)) r ≡ with_key k v (put_all (with_key l x s) r)
-    by true is found = absurd (let e : Some x ≡ None = found in cc)
-    by false is found = ap (λ t. put_all t r) (swapped k l v x s is) ∙ before_after k v (with_key l x s) r found
+    by : (lookup k r ≡ None → put_all (with_key k v (with_key l x s)) r ≡ with_key k v (put_all (with_key l x s) r))
+        → (b : Bool) → bytes_eq k l ≡ b → (if b then Some x else lookup k r) ≡ None → put_all (with_key l x (with_key k v s)) r ≡ with_key k v (put_all (with_key l x s) r)
+    by rest true is found = absurd (let e : Some x ≡ None = found in cc)
+    by rest false is found = ap (λ t. put_all t r) (swapped k l v x s is) ∙ rest found
 
 -- into entries among which there is one more
 among : (k : List ℕ) (v : Value) (s r : Assigns) → lookup k r ≡ None → put_all s (with_key k v r) ≡ put_all (with_key k v s) r
 among k v s no_assigns h = refl
-among k v s (assign l x r) h = by (bytes_eq k l) refl h (order k l) refl
+among k v s (assign l x r) h = by (among k v (with_key l x s) r) (bytes_eq k l) refl h (order k l) refl
   where
-    by : (b : Bool) → bytes_eq k l ≡ b → (if b then Some x else lookup k r) ≡ None → (o : Ordering) → order k l ≡ o
+    by : (lookup k r ≡ None → put_all (with_key l x s) (with_key k v r) ≡ put_all (with_key k v (with_key l x s)) r)
+        → (b : Bool) → bytes_eq k l ≡ b → (if b then Some x else lookup k r) ≡ None → (o : Ordering) → order k l ≡ o
         → put_all s (placed k v l x r o) ≡ put_all (with_key l x (with_key k v s)) r
-    by true is found o at = absurd (let e : Some x ≡ None = found in cc)
-    by false is found Less at = refl
-    by false is found Equal at = absurd (let e : true ≡ false = ap is_eq (sym at) ∙ is_eq-slice_cmp k l ∙ is in cc)
-    by false is found Greater at = among k v (with_key l x s) r found ∙ ap (λ t. put_all t r) (sym (swapped k l v x s is))
+    by rest true is found o at = absurd (let e : Some x ≡ None = found in cc)
+    by rest false is found Less at = refl
+    by rest false is found Equal at = absurd (let e : true ≡ false = ap is_eq (sym at) ∙ is_eq-slice_cmp k l ∙ is in cc)
+    by rest false is found Greater at = rest found ∙ ap (λ t. put_all t r) (sym (swapped k l v x s is))
 
 -- one entry, and then those behind it
 put_first : (k : List ℕ) (v : Value) (s r : Assigns) → put_all (with_key k v s) r ≡ put_all s (keep_last k v r (lookup k r))

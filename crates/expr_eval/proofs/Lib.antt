@@ -1,4 +1,3 @@
-pub mod Numbers
 pub mod Views
 pub mod Results
 pub mod Chained

@@ -1,5 +1,5 @@
 -- Values, lists and maps as they are seen.
-use Rattle.std.proofs.Common.{◌≡◌, ℕ, suc, List, [], ◌∷◌, ◌++◌, length, map, reverse, Bool, true, false, Option, Some, None, Ok, Err, option_map, if◌then◌else◌, refl, sym, ap, ◌∙◌}
+use Rattle.std.proofs.Common.{◌≡◌, ℕ, suc, List, [], ◌∷◌, ◌++◌, length, map, reverse, Bool, true, false, Option, Some, None, Ok, Err, option_map, is_some, if◌then◌else◌, refl, sym, ap, ◌∙◌}
 use Rattle.std.specs.Str.{bytes_eq}
 use Rattle.std.specs.Ordering.{nat_cmp, match_ordering}
 use Rattle.std.specs.Cmp.Lexicographic.{slice_cmp}
@@ -10,10 +10,15 @@ use Rattle.text_core.specs.declared.by_key.KeyValue.{KeyValue}
 use Rattle.text_core.specs.Keyed.{entry, lookup, with_key}
 use Rattle.value_core.specs.Value as model
 use Rattle.value_core.specs.Value.{Values, no_values, value}
-use Rattle.value_core.specs.View.{view, values_view, assigns_view, values_of}
+use Rattle.value_core.specs.View.{view, view_step, slot_step, values_view, assigns_view}
 use Rattle.value_core.specs.declared.value.Value.{Value}
+use Rattle.value_core.specs.declared.value.Value.TheVariants as form
+use Rattle.value_core.specs.declared.value.Value.TheOpen.{Value-F}
+use Rattle.value_core.specs.declared.value.Value.TheFolds.{fold-roll-Value}
+use Rattle.value_core.specs.declared.raise.Raise.TheVariants.{BadArgument}
+use Rattle.ast_core.specs.declared.operators.Function.{Function}
 use Rattle.doc_model.specs.Environment as scope
-use Rattle.doc_model.specs.Evaluation.{append_values, reverse_values, value_count, assign_count, is_some}
+use Rattle.doc_model.specs.Evaluation.{append_values, reverse_values, value_count, assign_count, is_some as is_there, eval_function}
 
 choose : (b : Bool) (v : Value) (o : Option Value) (m : Option model.Value) → option_map view o ≡ m → option_map view (if b then Some v else o) ≡ (if b then Some (view v) else m)
 choose true v o m h = refl
@@ -23,6 +28,14 @@ choose false v o m h = h
 pub lookup_seen : (k : List ℕ) (es : List (KeyValue Value)) → option_map view (lookup k es) ≡ scope.lookup k (assigns_view es)
 lookup_seen k [] = refl
 lookup_seen k (e ∷ es) = choose (bytes_eq k e.key) e.value _ _ (lookup_seen k es)
+
+there : (o : Option Value) → is_there (option_map view o) ≡ is_some o
+there None = refl
+there (Some v) = refl
+
+-- whether there is one
+pub there_seen : (k : List ℕ) (es : List (KeyValue Value)) → is_there (scope.lookup k (assigns_view es)) ≡ is_some (lookup k es)
+there_seen k es = ap is_there (sym (lookup_seen k es)) ∙ there (lookup k es)
 
 -- entries with a value at a key
 pub seen_with : (k : List ℕ) (v : Value) (es : List (KeyValue Value)) → assigns_view (with_key k v es) ≡ scope.with_key k (view v) (assigns_view es)
@@ -52,3 +65,18 @@ values_counted (x ∷ xs) = ap suc (values_counted xs)
 pub assigns_counted : (es : List (KeyValue Value)) → assign_count (assigns_view es) ≡ length es
 assigns_counted [] = refl
 assigns_counted (e ∷ es) = ap suc (assigns_counted es)
+
+-- a list and a map, seen
+pub list_form : (xs : List Value) → view (form.List xs) ≡ model.list (values_view xs)
+list_form xs = ap view (sym (form.rolls-List xs)) ∙ fold-roll-Value model.Value model.Value view_step slot_step (Value-F.List xs)
+
+pub map_form : (es : List (KeyValue Value)) → view (form.Map es) ≡ model.map_of (assigns_view es)
+map_form es = ap view (sym (form.rolls-Map es)) ∙ fold-roll-Value model.Value model.Value view_step slot_step (Value-F.Map es)
+
+-- no function takes none or more than three arguments
+pub other_count : (f : Function) (xs : List Value) → (length xs ≡ 1 → ⊥) → (length xs ≡ 2 → ⊥) → (length xs ≡ 3 → ⊥) → eval_function f (values_view xs) ≡ Err BadArgument
+other_count f [] one two three = refl
+other_count f (x ∷ []) one two three = absurd (one refl)
+other_count f (x ∷ y ∷ []) one two three = absurd (two refl)
+other_count f (x ∷ y ∷ z ∷ []) one two three = absurd (three refl)
+other_count f (x ∷ y ∷ z ∷ w ∷ ws) one two three = refl

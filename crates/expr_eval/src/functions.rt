@@ -20,11 +20,18 @@ use value_core::{Raise, Value, Values, copy};
 pub(crate) fn call(alloc: Global, function: Function, arguments: Values) -> Result<Value, EvalFault>
     ensures { Gives view result (eval_function function (values_view arguments)) }
 {
-    match arguments.as_slice() {
+    call_with(alloc, function, arguments.as_slice())
+}
+
+fn call_with(alloc: Global, function: Function, arguments: &[Value]) -> Result<Value, EvalFault>
+    ensures { Gives view result (eval_function function (values_view arguments.now)) }
+{
+    match arguments {
+        [] => Err(EvalFault::Raised(Raise::BadArgument)),
         [one] => call_with_one(alloc, function, one),
         [one, two] => call_with_two(alloc, function, one, two),
         [one, two, three] => call_with_three(alloc, function, one, two, three),
-        _ => Err(EvalFault::Raised(Raise::BadArgument)),
+        [_, _, _, _, ..] => Err(EvalFault::Raised(Raise::BadArgument)),
     }
 }
 

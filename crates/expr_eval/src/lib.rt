@@ -10,6 +10,8 @@ mod lists;
 mod maps;
 mod operators;
 mod right_chain;
+#[cfg(test)]
+mod tests;
 mod text;
 
 pub use evaluate::eval;

@@ -23,11 +23,10 @@ pub(crate) fn append(left: Value, right: Value) -> Result<Value, EvalFault>
 fn followed_by(items: Values, more: Values) -> Result<Values, OutOfMemory>
     ensures { IfOk result (λ vs. values_view vs ≡ append_values (values_view items) (values_view more)) }
 {
-    let mut items = items;
-    'more: for item in more.into_vec() {
-        items.push(item)?;
-    }
-    Ok(items)
+    let mut items = items.into_vec();
+    let mut more = more.into_vec();
+    items.append(&mut more)?;
+    Ok(Seq::from_vec(items))
 }
 
 /// Two texts, one after the other.
