@@ -1,5 +1,7 @@
 -- Values, lists and maps as they are seen.
-use Rattle.std.proofs.Common.{◌≡◌, ℕ, suc, List, [], ◌∷◌, ◌++◌, length, map, reverse, Bool, true, false, Option, Some, None, Ok, Err, option_map, is_some, if◌then◌else◌, refl, sym, ap, ◌∙◌}
+use Rattle.std.proofs.Common.{◌≡◌, ℕ, suc, List, [], ◌∷◌, ◌++◌, length, map, reverse, Bool, true, false, Option, Some, None, Ok, Err, option_map, is_some, IfSome, if◌then◌else◌, refl, sym, ap, ◌∙◌}
+use denote.Ref.{Bor}
+use Rattle.std.specs.Option.{option_copied}
 use Rattle.std.specs.Str.{bytes_eq}
 use Rattle.std.specs.Ordering.{nat_cmp, match_ordering}
 use Rattle.std.specs.Cmp.Lexicographic.{slice_cmp}
@@ -15,10 +17,11 @@ use Rattle.value_core.specs.declared.value.Value.{Value}
 use Rattle.value_core.specs.declared.value.Value.TheVariants as form
 use Rattle.value_core.specs.declared.value.Value.TheOpen.{Value-F}
 use Rattle.value_core.specs.declared.value.Value.TheFolds.{fold-roll-Value}
+use Rattle.value_core.specs.declared.raise.Raise.{Raise}
 use Rattle.value_core.specs.declared.raise.Raise.TheVariants.{BadArgument}
 use Rattle.ast_core.specs.declared.operators.Function.{Function}
 use Rattle.doc_model.specs.Environment as scope
-use Rattle.doc_model.specs.Evaluation.{append_values, reverse_values, value_count, assign_count, is_some as is_there, eval_function}
+use Rattle.doc_model.specs.Evaluation.{append_values, reverse_values, value_count, assign_count, is_some as is_there, eval_function, Res, or_raise}
 
 choose : (b : Bool) (v : Value) (o : Option Value) (m : Option model.Value) → option_map view o ≡ m → option_map view (if b then Some v else o) ≡ (if b then Some (view v) else m)
 choose true v o m h = refl
@@ -32,6 +35,12 @@ lookup_seen k (e ∷ es) = choose (bytes_eq k e.key) e.value _ _ (lookup_seen k 
 there : (o : Option Value) → is_there (option_map view o) ≡ is_some o
 there None = refl
 there (Some v) = refl
+
+-- a value that stands at a key
+pub placed : (o : Option (Bor Value)) (k : List ℕ) (es : List (KeyValue Value)) (raise : Raise) (r : Res model.Value) → option_copied o ≡ lookup k es → r ≡ or_raise (scope.lookup k (assigns_view es)) raise
+    → IfSome o (λ v. r ≡ Ok (view v.now))
+placed None k es raise r h e = tt
+placed (Some v) k es raise r h e = e ∙ ap (λ m. or_raise m raise) (sym (lookup_seen k es) ∙ ap (option_map view) (sym h))
 
 -- whether there is one
 pub there_seen : (k : List ℕ) (es : List (KeyValue Value)) → is_there (scope.lookup k (assigns_view es)) ≡ is_some (lookup k es)
@@ -69,6 +78,9 @@ assigns_counted (e ∷ es) = ap suc (assigns_counted es)
 -- a list and a map, seen
 pub list_form : (xs : List Value) → view (form.List xs) ≡ model.list (values_view xs)
 list_form xs = ap view (sym (form.rolls-List xs)) ∙ fold-roll-Value model.Value model.Value view_step slot_step (Value-F.List xs)
+
+pub nil_form : view form.Nil ≡ model.nil
+nil_form = ap view (sym form.rolls-Nil) ∙ fold-roll-Value model.Value model.Value view_step slot_step Value-F.Nil
 
 pub map_form : (es : List (KeyValue Value)) → view (form.Map es) ≡ model.map_of (assigns_view es)
 map_form es = ap view (sym (form.rolls-Map es)) ∙ fold-roll-Value model.Value model.Value view_step slot_step (Value-F.Map es)

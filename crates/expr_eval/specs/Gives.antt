@@ -1,5 +1,9 @@
 -- What a call answers that evaluates.
 use Rattle.std.specs.Prelude.{◌≡◌, ℕ, ℤ, List, Bool, Result, Ok, Err}
+use denote.Ref.{Bor}
+use Rattle.value_core.specs.Value as model
+use Rattle.value_core.specs.View.{view}
+use Rattle.value_core.specs.declared.value.Value.{Value}
 use Rattle.doc_model.specs.Evaluation.{Res}
 use Rattle.expr_eval.specs.declared.fault.EvalFault.{EvalFault}
 use Rattle.expr_eval.specs.declared.fault.EvalFault.TheVariants.{Raised, OutOfMemory}
@@ -9,6 +13,10 @@ abbrev pub Gives : {A B : Type 0} → (A → B) → Result A EvalFault → Res B
 Gives f (Ok v) r = r ≡ Ok (f v)
 Gives f (Err (Raised k)) r = r ≡ Err k
 Gives f (Err OutOfMemory) r = Unit {0}
+
+-- a value behind a reference
+abbrev pub borrowed_view : Bor Value → model.Value
+borrowed_view v = view v.now
 
 -- a text, a truth and a pair of numbers are seen as they are
 abbrev pub text_as_is : List ℕ → List ℕ

@@ -1,18 +1,19 @@
 //! The value of an expression.
 ghost use Rattle.std.specs.Prelude.{◌≡◌, ◌++◌, ℕ, List, Option, Ok, map};
+ghost use Rattle.value_core.specs.Value as model;
 ghost use Rattle.value_core.specs.View.{view, values_view, assigns_view};
 ghost use Rattle.ast_core.specs.ExprView.{expr_view, exprs_view, parts_of, pairs_of};
 ghost use Rattle.ast_core.specs.NamesIn.{part_view, pair_view, step_view, operand_view, call_view};
 ghost use Rattle.doc_model.specs.Environment.{Stream, Component};
 ghost use Rattle.doc_model.specs.Evaluation.{eval_expr, eval_exprs, eval_pairs, eval_parts, on_res};
 ghost use Rattle.expr_eval.specs.Chains.{chain, operand_on, step_on, call_on, right_on, part_text, prepend};
-ghost use Rattle.expr_eval.specs.Gives.{Gives, text_as_is};
+ghost use Rattle.expr_eval.specs.Gives.{Gives, borrowed_view, text_as_is};
 ghost use Rattle.expr_eval.specs.Scope.{env_of, env_with};
 
 use crate::EvalFault;
 use crate::functions::call;
 use crate::judge::{decides, shallow, was_true};
-use crate::maps::{field, find, index};
+use crate::maps::{copied, field, find, index, place};
 use crate::operators::{binary, unary};
 use crate::right_chain::{Waiting, take_back};
 use crate::text::printed_out;
@@ -65,8 +66,11 @@ fn value_of(
             shallow(Value::Map(entries))
         }
         Expr::Path { value, steps } => {
-            let value = value_of(alloc, value, assigns, variables)?;
-            walk(alloc, steps, value, assigns, variables)
+            if let Some(from) = place(value, assigns, variables) {
+                return walk(alloc, steps, from, assigns, variables);
+            }
+            let from = value_of(alloc, value, assigns, variables)?;
+            walk(alloc, steps, &from, assigns, variables)
         }
         Expr::Unary { op, value } => {
             let value = value_of(alloc, value, assigns, variables)?;
@@ -176,38 +180,42 @@ fn part_of(
     }
 }
 
+// A copy of what the steps lead to, from a value.
 #[cycle(eval)]
 fn walk(
     alloc: Global,
     steps: &Seq<PathStep>,
-    value: Value,
+    from: &Value,
     assigns: &Assigns,
     variables: &Assigns,
 ) -> Result<Value, EvalFault>
-    ensures { Gives view result (chain (step_on (env_of assigns.now variables.now)) (Ok (view value)) (map step_view steps.now)) }
+    ensures { Gives view result (chain (step_on (env_of assigns.now variables.now)) (Ok (view from.now)) (map step_view steps.now)) }
 {
-    let mut value = value;
+    let nil = Value::Nil;
+    let mut at = from;
     'steps: for step in steps.as_slice() {
-        value = go_into(alloc, step, value, assigns, variables)?;
+        at = go_into(alloc, step, at, &nil, assigns, variables)?;
     }
-    Ok(value)
+    copied(alloc, at)
 }
 
 #[cycle(eval)]
-fn go_into(
+fn go_into<'a>(
     alloc: Global,
     step: &PathStep,
-    value: Value,
+    value: &'a Value,
+    nil: &'a Value,
     assigns: &Assigns,
     variables: &Assigns,
-) -> Result<Value, EvalFault>
-    ensures { Gives view result (step_on (env_of assigns.now variables.now) (step_view step.now) (view value)) }
+) -> Result<&'a Value, EvalFault>
+    requires { view nil.now ≡ model.nil }
+    ensures { Gives borrowed_view result (step_on (env_of assigns.now variables.now) (step_view step.now) (view value.now)) }
 {
     match step {
-        PathStep::Field(key) => field(alloc, value, key.as_str()),
+        PathStep::Field(key) => field(value, key.as_str()),
         PathStep::Index(expr) => {
             let key = value_of(alloc, expr, assigns, variables)?;
-            index(alloc, value, key)
+            index(value, key, nil)
         }
     }
 }

@@ -18,17 +18,6 @@ use Rattle.expr_eval.proofs.Chained.{chain_on, chain_stops, chain_begins, chain_
 use Rattle.expr_eval.proofs.Listed.{exprs_on, exprs_stop, exprs_end, parts_begin, parts_on, parts_stop, parts_end, pairs_on, pairs_stop, pairs_end}
 use Rattle.expr_eval.proofs.evaluate.+eval.Goals as goal
 
-pub walk-returns-in_err-value : goal.walk-returns-in_err-value
-walk-returns-in_err-value t c =
-    let total = chain (step_on (env_of c.args.assigns.now c.args.variables.now)) (Ok (view c.args.value)) (map step_view c.args.steps.now) in
-    let h : Gives view (Err c.in_err-value.field-0.0) total
-    = chain_stops view (step_on (env_of c.args.assigns.now c.args.variables.now)) step_view c.as_slice-step-items.result.now c.steps.step-index c.step-item.result (view c.steps.value) c.in_err-value.field-0.0 total c.steps-test.true c.step-item.is c.steps.invariant c.in_err-value.ensures in
-    search (rules, h)
-
-pub walk-steps-preserved : goal.walk-steps-preserved
-walk-steps-preserved t c =
-    chain_on (step_on (env_of c.args.assigns.now c.args.variables.now)) step_view c.as_slice-step-items.result.now c.steps.step-index c.step-item.result (view c.steps.value) (view c.in_ok-value.value) (chain (step_on (env_of c.args.assigns.now c.args.variables.now)) (Ok (view c.args.value)) (map step_view c.args.steps.now)) c.steps-test.true c.step-item.is c.steps.invariant c.in_ok-value.ensures
-
 pub left_chain-returns-in_err-value : goal.left_chain-returns-in_err-value
 left_chain-returns-in_err-value t c =
     let total = chain (operand_on (env_of c.args.assigns.now c.args.variables.now)) (Ok (view c.args.first)) (map operand_view c.args.rest.now) in
@@ -109,19 +98,6 @@ pub entries_of-returns : goal.entries_of-returns
 entries_of-returns t c =
     let past : length c.as_slice-pair-items.result.now ≤ c.pairs.pair-index = omega arith in
     pairs_end (env_of c.args.assigns.now c.args.variables.now) c.as_slice-pair-items.result.now c.pairs.pair-index (assigns_view c.pairs.entries) (eval_pairs (env_of c.args.assigns.now c.args.variables.now) (pairs_of (map pair_view c.args.pairs.now))) past c.pairs.invariant
-
-pub value_of-returns-in_err-value-in-Path : goal.value_of-returns-in_err-value-in-Path
-value_of-returns-in_err-value-in-Path t c =
-    let h : Gives view (Err c.in_err-value-in-Path.field-0.0) (eval_expr (env_of c.args.assigns.now c.args.variables.now) (expr_view c.args.expr.now))
-    = gives_as view (Err c.in_err-value-in-Path.field-0.0) (eval_expr (env_of c.args.assigns.now c.args.variables.now) (expr_view c.args.expr.now)) (chain (step_on (env_of c.args.assigns.now c.args.variables.now)) (eval_expr (env_of c.args.assigns.now c.args.variables.now) (expr_view c.deref.result.now)) (map step_view c.in-Path.steps)) (ap (λ e. eval_expr (env_of c.args.assigns.now c.args.variables.now) (expr_view e)) c.in-Path.is ∙ ap (eval_expr (env_of c.args.assigns.now c.args.variables.now)) (path_form c.in-Path.value c.in-Path.steps) ∙ path_is (env_of c.args.assigns.now c.args.variables.now) (expr_view c.in-Path.value.value) (map step_view c.in-Path.steps) ∙ ap (λ e. chain (step_on (env_of c.args.assigns.now c.args.variables.now)) (eval_expr (env_of c.args.assigns.now c.args.variables.now) (expr_view e)) (map step_view c.in-Path.steps)) (sym c.deref.ensures))
-    (chain_begins view view (step_on (env_of c.args.assigns.now c.args.variables.now)) (eval_expr (env_of c.args.assigns.now c.args.variables.now) (expr_view c.deref.result.now)) (map step_view c.in-Path.steps) c.in_err-value-in-Path.field-0.0 c.in_err-value-in-Path.ensures) in
-    search (rules, h)
-
-pub value_of-returns-in_ok-value-in-Path : goal.value_of-returns-in_ok-value-in-Path
-value_of-returns-in_ok-value-in-Path t c =
-    gives_as view c.walk.result (eval_expr (env_of c.args.assigns.now c.args.variables.now) (expr_view c.args.expr.now)) (chain (step_on (env_of c.args.assigns.now c.args.variables.now)) (Ok (view c.in_ok-value-in-Path.value)) (map step_view c.in-Path.steps))
-    ((ap (λ e. eval_expr (env_of c.args.assigns.now c.args.variables.now) (expr_view e)) c.in-Path.is ∙ ap (eval_expr (env_of c.args.assigns.now c.args.variables.now)) (path_form c.in-Path.value c.in-Path.steps) ∙ path_is (env_of c.args.assigns.now c.args.variables.now) (expr_view c.in-Path.value.value) (map step_view c.in-Path.steps) ∙ ap (λ e. chain (step_on (env_of c.args.assigns.now c.args.variables.now)) (eval_expr (env_of c.args.assigns.now c.args.variables.now) (expr_view e)) (map step_view c.in-Path.steps)) (sym c.deref.ensures)) ∙ ap (λ r. chain (step_on (env_of c.args.assigns.now c.args.variables.now)) r (map step_view c.in-Path.steps)) c.in_ok-value-in-Path.ensures)
-    c.walk.ensures
 
 pub value_of-returns-in_err-first-in-LeftChain : goal.value_of-returns-in_err-first-in-LeftChain
 value_of-returns-in_err-first-in-LeftChain t c =
@@ -211,11 +187,6 @@ text_of-parts-init t c =
     parts_begin (eval_parts (env_of c.args.assigns.now c.args.variables.now) (parts_of (map part_view c.args.parts.now))) c.new-text.result c.new-text.ensures
     ∙ ap (λ ps. on_res (λ s. c.new-text.result ++ s) (eval_parts (env_of c.args.assigns.now c.args.variables.now) (parts_of (map part_view ps)))) (sym c.as_slice-part-items.ensures)
 
-pub walk-returns : goal.walk-returns
-walk-returns t c =
-    let past : length c.as_slice-step-items.result.now ≤ c.steps.step-index = omega arith in
-    chain_ends (step_on (env_of c.args.assigns.now c.args.variables.now)) step_view c.as_slice-step-items.result.now c.steps.step-index (view c.steps.value) (chain (step_on (env_of c.args.assigns.now c.args.variables.now)) (Ok (view c.args.value)) (map step_view c.args.steps.now)) past c.steps.invariant
-
 pub left_chain-returns : goal.left_chain-returns
 left_chain-returns t c =
     let past : length c.as_slice-operand-items.result.now ≤ c.rest.operand-index = omega arith in
@@ -225,3 +196,29 @@ pub pipes-returns : goal.pipes-returns
 pipes-returns t c =
     let past : length c.as_slice-pipe-items.result.now ≤ c.calls.pipe-index = omega arith in
     chain_ends (call_on (env_of c.args.assigns.now c.args.variables.now)) call_view c.as_slice-pipe-items.result.now c.calls.pipe-index (view c.calls.value) (chain (call_on (env_of c.args.assigns.now c.args.variables.now)) (Ok (view c.args.first)) (map call_view c.args.calls.now)) past c.calls.invariant
+
+pub walk-returns-in_err-at : goal.walk-returns-in_err-at
+walk-returns-in_err-at t c =
+    let h : Gives view (Err c.in_err-at.field-0.0) (chain (step_on (env_of c.args.assigns.now c.args.variables.now)) (Ok (view c.args.from.now)) (map step_view c.args.steps.now))
+    = chain_stops view (step_on (env_of c.args.assigns.now c.args.variables.now)) step_view c.as_slice-step-items.result.now c.steps.step-index c.step-item.result (view c.steps.at.now) c.in_err-at.field-0.0 (chain (step_on (env_of c.args.assigns.now c.args.variables.now)) (Ok (view c.args.from.now)) (map step_view c.args.steps.now)) c.steps-test.true c.step-item.is c.steps.invariant c.in_err-at.ensures in
+    search (rules, h)
+
+pub walk-steps-preserved : goal.walk-steps-preserved
+walk-steps-preserved t c =
+    chain_on (step_on (env_of c.args.assigns.now c.args.variables.now)) step_view c.as_slice-step-items.result.now c.steps.step-index c.step-item.result (view c.steps.at.now) (view c.in_ok-at.at.now) (chain (step_on (env_of c.args.assigns.now c.args.variables.now)) (Ok (view c.args.from.now)) (map step_view c.args.steps.now)) c.steps-test.true c.step-item.is c.steps.invariant c.in_ok-at.ensures
+
+pub walk-returns : goal.walk-returns
+walk-returns t c =
+    let past : length c.as_slice-step-items.result.now ≤ c.steps.step-index = omega arith in
+    gives_as view c.copied.result (chain (step_on (env_of c.args.assigns.now c.args.variables.now)) (Ok (view c.args.from.now)) (map step_view c.args.steps.now)) (Ok (view c.steps.at.now))
+    (chain_ends (step_on (env_of c.args.assigns.now c.args.variables.now)) step_view c.as_slice-step-items.result.now c.steps.step-index (view c.steps.at.now) (chain (step_on (env_of c.args.assigns.now c.args.variables.now)) (Ok (view c.args.from.now)) (map step_view c.args.steps.now)) past c.steps.invariant)
+    c.copied.ensures
+
+pub value_of-returns-in_err-from : goal.value_of-returns-in_err-from
+value_of-returns-in_err-from t c = ?
+
+pub value_of-returns-in-Some : goal.value_of-returns-in-Some
+value_of-returns-in-Some t c = ?
+
+pub value_of-returns-in_ok-from : goal.value_of-returns-in_ok-from
+value_of-returns-in_ok-from t c = ?

@@ -26,8 +26,8 @@ invariant-text_of-parts l =
 
 abbrev pub invariant-walk-steps : goal.invariant-walk-steps
 invariant-walk-steps l =
-    chain (step_on (env_of l.assigns l.variables)) (Ok (view l.initial.value)) (map step_view l.steps)
-    ≡ chain (step_on (env_of l.assigns l.variables)) (Ok (view l.value)) (map step_view (drop l.step-index l.step-items))
+    chain (step_on (env_of l.assigns l.variables)) (Ok (view l.fn.from)) (map step_view l.steps)
+    ≡ chain (step_on (env_of l.assigns l.variables)) (Ok (view l.at)) (map step_view (drop l.step-index l.step-items))
 
 abbrev pub invariant-left_chain-rest : goal.invariant-left_chain-rest
 invariant-left_chain-rest l =
