@@ -1,5 +1,5 @@
 -- Lists of expressions, of pieces, of pairs and of items, one by one.
-use Rattle.std.proofs.Common.{◌≡◌, ℕ, ◌+◌, ◌<◌, ◌≤◌, List, [], ◌∷◌, ◌++◌, length, get_or, drop, map, Bool, true, false, Result, Ok, Err, refl, sym, ap, ◌∙◌, append_assoc, append-nil}
+use Rattle.std.proofs.Common.{◌≡◌, ℕ, ◌+◌, ◌<◌, ◌≤◌, List, [], ◌∷◌, ◌++◌, length, get_or, drop, map, Ok, Err, refl, sym, ap, ◌∙◌, append_assoc, append-nil}
 use Rattle.std.proofs.lemmas.List.{map-append, drop_all}
 use Rattle.text_core.specs.declared.by_key.KeyValue.{KeyValue}
 use Rattle.text_core.specs.Keyed as keyed
@@ -13,17 +13,17 @@ use Rattle.ast_core.specs.declared.expr.Expr.{Expr}
 use Rattle.ast_core.specs.declared.expr.TextPart.{TextPart}
 use Rattle.ast_core.specs.declared.expr.Pair.{Pair}
 use Rattle.ast_core.specs.Syntax as syntax
-use Rattle.ast_core.specs.ExprView.{Part, plain_part, expr_part, exprs_of, parts_of, pairs_of, expr_view, exprs_view}
+use Rattle.ast_core.specs.ExprView.{Part, plain_part, expr_part, parts_of, pairs_of, expr_view, exprs_view}
 use Rattle.ast_core.specs.NamesIn.{part_view, pair_view}
 use Rattle.doc_model.specs.Environment as scope
 use Rattle.doc_model.specs.Environment.{Env}
-use Rattle.doc_model.specs.Evaluation.{Res, then_do, on_res, both, eval_expr, eval_exprs, eval_parts, printed, joined, is_member}
+use Rattle.doc_model.specs.Evaluation.{Res, then_do, on_res, both, eval_expr, eval_exprs, eval_parts, printed, joined}
 use Rattle.expr_eval.specs.declared.fault.EvalFault.{EvalFault}
 use Rattle.expr_eval.specs.declared.fault.EvalFault.TheVariants.{Raised, OutOfMemory}
-use Rattle.expr_eval.specs.Gives.{Gives, text_as_is}
+use Rattle.expr_eval.specs.Gives.{Gives}
 use Rattle.expr_eval.specs.Operands.{joined_on}
 use Rattle.expr_eval.specs.Chains.{prepend, part_text}
-use Rattle.expr_eval.proofs.Results.{both_on, on_on}
+use Rattle.expr_eval.proofs.Results.{both_on}
 use Rattle.expr_eval.proofs.Views.{seen_with}
 use Rattle.expr_eval.proofs.Keys.{pairs_into}
 

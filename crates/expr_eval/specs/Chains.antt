@@ -1,5 +1,5 @@
 -- Chains of operators, steps and pipes, from the value that stands first.
-use Rattle.std.specs.Prelude.{ℕ, List, [], ◌∷◌, Ok, Err}
+use Rattle.std.specs.Prelude.{ℕ, List, [], ◌∷◌, Ok}
 use Rattle.value_core.specs.Value as model
 use Rattle.value_core.specs.Value.{Values, value}
 use Rattle.value_core.specs.View.{view}

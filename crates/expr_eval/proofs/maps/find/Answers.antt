@@ -1,4 +1,4 @@
-use Rattle.std.proofs.Common.{◌≡◌, Ok, sym, ap, ◌∙◌, option_map}
+use Rattle.std.proofs.Common.{Ok, sym, ap, ◌∙◌, option_map}
 use Rattle.value_core.specs.View.{view}
 use Rattle.doc_model.specs.Evaluation.{or_raise}
 use Rattle.expr_eval.proofs.Views.{lookup_seen}

@@ -1,4 +1,4 @@
-use Rattle.std.proofs.Common.{rules, ◌≡◌, Ok, Err, map, ap, ◌∙◌}
+use Rattle.std.proofs.Common.{rules, Ok, Err, map, ap, ◌∙◌}
 use Rattle.value_core.specs.View.{view}
 use Rattle.doc_model.specs.Evaluation.{eval_binary}
 use Rattle.expr_eval.specs.Chains.{back, waiting_view}
