@@ -1,0 +1,6 @@
+pub mod Views
+pub mod Results
+pub mod Chained
+pub mod Keys
+pub mod Listed
+pub mod Forms

@@ -1,0 +1,4 @@
+pub mod Gives
+pub mod Scope
+pub mod Operands
+pub mod Chains
