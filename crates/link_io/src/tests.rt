@@ -130,10 +130,10 @@ fn listeners_in_memory(rt: HostRuntime) -> Result<(), Fail> {
 const REQUEST: &[u8] =
     b"GET /chat HTTP/1.1\r\nHost: server.example.com\r\nUpgrade: websocket\r\nConnection: Upgrade\r\nSec-WebSocket-Key: dGhlIHNhbXBsZSBub25jZQ==\r\nOrigin: http://example.com\r\nSec-WebSocket-Version: 13\r\n\r\n";
 
-/// Its answer's key, of section 1.3.
+/// Its answer's key, of RFC 6455, section 1.3.
 const ACCEPT: &str = "s3pPLMBiTxaQ9kYGzzhZRbK+xOo=";
 
-/// `Hello` masked and unmasked, of section 5.7.
+/// `Hello` masked and unmasked, of RFC 6455, section 5.7.
 const MASKED: &[u8] = &[
     0x81, 0x85, 0x37, 0xfa, 0x21, 0x3d, 0x7f, 0x9f, 0x4d, 0x51, 0x58,
 ];
