@@ -1,0 +1,128 @@
+//! Expressions, read from their tokens.
+ghost use Rattle.std.specs.Prelude.{◌≡◌, ℕ, ◌+◌, ◌≤◌, IfOk, nat_le, option_map};
+ghost use Rattle.expr_core.specs.Grammar as grammar;
+ghost use Rattle.expr_core.specs.Machine as machine;
+ghost use Rattle.expr_core.specs.Outcome.{outcome_of};
+ghost use Rattle.expr_core.specs.Seen.{value_view, meant_view, style_view, seen, state_of};
+ghost use Rattle.expr_core.specs.Gives.{Gives, fault_of, spelled};
+
+use crate::frame::Mode;
+use crate::pile::Pile;
+use crate::reduce::reduce;
+use crate::step::step;
+use expr_token::{Placed, Token};
+use crate::value::{Meant, Style, Value};
+use std::alloc::Global;
+use text_core::OutOfMemory;
+
+/// Why tokens are not read, with the number of the token that is at fault.
+#[derive(Clone, Copy)]
+pub(crate) enum TokenFault {
+    Stray(usize),
+    BadNumber(usize),
+    TooDeep(usize),
+    /// More was needed.
+    Ended,
+    OutOfMemory,
+}
+
+impl From<OutOfMemory> for TokenFault {
+    ghost use Rattle.std.specs.Prelude.{◌≡◌};
+    ghost use Rattle.expr_core.specs.declared.read.TokenFault.TheVariants.{OutOfMemory};
+
+    ghost from_gives = { λ _ e. e ≡ OutOfMemory };
+
+    fn from(_e: OutOfMemory) -> TokenFault {
+        TokenFault::OutOfMemory
+    }
+}
+
+/// No token goes on like this.
+pub(crate) fn fault_at(token: &Token, at: usize) -> TokenFault
+    ensures { result ≡ fault_of token.now at }
+{
+    match token {
+        Token::BadNumber => TokenFault::BadNumber(at),
+        _ => TokenFault::Stray(at),
+    }
+}
+
+fn style_levels(style: Style) -> usize
+    ensures value { (n : ℕ) → grammar.deeper (style_view style) n ≡ n + result }
+    ensures small { result ≤ 2 }
+{
+    match style {
+        Style::Bare => 1,
+        Style::Inside => 2,
+    }
+}
+
+// How much deeper the last token stands than the frames.
+fn more_levels(mode: &Mode) -> usize
+    ensures value { (fs : machine.Frames) → machine.depth (state_of mode.now fs) ≡ machine.nest fs + result }
+    ensures small { result ≤ 2 }
+{
+    match mode {
+        Mode::WantIf => 1,
+        Mode::WantDo(style, _) => style_levels(*style),
+        Mode::WantElse(style, _, _) => style_levels(*style),
+        Mode::WantKey(_, _) => 1,
+        Mode::WantColon(_, _, _) => 1,
+        Mode::WantQuote(_, _, _) => 1,
+        Mode::WantArrow(_, _, _) => 1,
+        _ => 0,
+    }
+}
+
+fn is_shallow(mode: &Mode, frames: &Pile) -> bool
+    ensures { result ≡ nat_le (machine.depth (state_of mode.now (seen frames.now))) 64 }
+{
+    let most = 64 - more_levels(mode);
+    frames.depth() <= most
+}
+
+fn ended(alloc: Global, value: Value, frames: Pile) -> Result<Option<Meant>, OutOfMemory>
+    ensures { IfOk result (λ meant. machine.meant_by (machine.ends (machine.reduce 0 (value_view value) (seen frames))) ≡ option_map meant_view meant) }
+{
+    let mut frames = frames;
+    let value = reduce(alloc, 0, value, &mut frames)?;
+    match frames.pop() {
+        None => Ok(Some(value.meant)),
+        Some(_frame) => Ok(None),
+    }
+}
+
+// What was read, where the text may end here.
+fn finished(alloc: Global, mode: Mode, frames: Pile) -> Result<Option<Meant>, OutOfMemory>
+    ensures { IfOk result (λ meant. machine.meant_by (machine.finished (state_of mode (seen frames))) ≡ option_map meant_view meant) }
+{
+    match mode {
+        Mode::Have(value) => ended(alloc, value, frames),
+        _ => Ok(None),
+    }
+}
+
+/// What tokens mean.
+pub(crate) fn read_tokens(alloc: Global, tokens: &[Placed]) -> Result<Meant, TokenFault>
+    ensures { Gives result (outcome_of machine.expr_reader (spelled tokens.now)) }
+{
+    let mut frames = Pile::new(alloc);
+    let mut mode = Mode::Want;
+    let mut at = 0;
+    'each: while at < tokens.len() {
+        match step(alloc, &tokens[at].token, mode, &mut frames)? {
+            None => return Err(fault_at(&tokens[at].token, at)),
+            Some(next) => {
+                if !is_shallow(&next, &frames) {
+                    return Err(TokenFault::TooDeep(at));
+                }
+                mode = next;
+            }
+        }
+        at += 1;
+    }
+    match finished(alloc, mode, frames)? {
+        Some(meant) => Ok(meant),
+        None => Err(TokenFault::Ended),
+    }
+}
