@@ -1,7 +1,8 @@
 -- A text is read by tokens in place of bytes.
-use Rattle.std.proofs.Common.{◌≡◌, ℕ, zero, suc, ◌+◌, ◌-◌, ◌<◌, ◌≤◌, ◌⊎◌, inl, inr, List, [], ◌∷◌, ◌++◌, length, take, drop, get_or, reverse, Bool, true, false, Option, Some, None, refl, sym, ap, ◌∙◌, subst, arith, append_assoc, append-nil}
+use Rattle.std.proofs.Common.{◌≡◌, ℕ, zero, suc, ◌+◌, ◌-◌, ◌<◌, ◌≤◌, ◌⊎◌, inl, inr, List, [], ◌∷◌, ◌++◌, length, drop, get_or, min, reverse, Bool, true, false, Option, Some, None, refl, sym, ap, ◌∙◌, subst, arith, append_assoc, append-nil}
 use Rattle.std.specs.List.{slice_get}
-use Rattle.std.proofs.lemmas.List.{drop-drop, reverse-append, reverse-reverse, length-reverse}
+use Rattle.std.proofs.lemmas.List.{drop-drop, drop_all, reverse-append, reverse-reverse, length-reverse}
+use Rattle.std.proofs.lemmas.Bool.{cases_lt}
 use Rattle.expr_token.specs.declared.token.Token.{Token}
 use Rattle.expr_token.specs.declared.token.Placed.{Placed}
 use Rattle.expr_token.specs.declared.token.Cut.{Cut}
@@ -47,60 +48,43 @@ pass zero at near os bs = let e : at ≡ at + 0 = omega arith in ap (λ i. token
 pass (suc n) at near os [] = refl
 pass (suc n) at near os (b ∷ bs) = let e : at + 1 + n ≡ at + suc n = omega arith in pass n (at + 1) near os bs ∙ ap (λ i. tokens_from i near os 0 (drop n bs)) e
 
-drop_past : (n : ℕ) (l : List ℕ) → length l ≤ n → drop n l ≡ []
-drop_past zero [] h = refl
-drop_past zero (b ∷ l) h = absurd (grind arith)
-drop_past (suc n) [] h = refl
-drop_past (suc n) (b ∷ l) h = drop_past n l (grind arith)
-
 none_left : (at : ℕ) (near : Near) (os : List Opened) (text : List ℕ) → length text ≤ at → tokens_from at near os 0 (drop at text) ≡ []
-none_left at near os text h = ap (tokens_from at near os 0) (drop_past at text h)
+none_left at near os text h = ap (tokens_from at near os 0) (drop_all at text h)
 
-fits_or_not : (a b : ℕ) → (a ≤ b) ⊎ (b < a)
-fits_or_not zero b = inl (omega arith)
-fits_or_not (suc a) zero = inr (omega arith)
-fits_or_not (suc a) (suc b) = elim (fits_or_not a b) [ inl h ↦ inl (omega arith) | inr h ↦ inr (omega arith) ]
-
--- where a token ends, or the text before it
-clamped : (at to : ℕ) (near : Near) (os : List Opened) (text : List ℕ) → (at ≤ length text → to ≡ at) → (length text < at → to ≡ length text) → tokens_from at near os 0 (drop at text) ≡ tokens_from to near os 0 (drop to text)
-clamped at to near os text h k = by_order (fits_or_not at (length text))
+-- behind the text there is none
+clamped : (at to : ℕ) (near : Near) (os : List Opened) (text : List ℕ) → to ≡ min at (length text) → tokens_from at near os 0 (drop at text) ≡ tokens_from to near os 0 (drop to text)
+clamped at to near os text e = by_order (cases_lt at (length text))
   where
-    by_order : (at ≤ length text) ⊎ (length text < at) → tokens_from at near os 0 (drop at text) ≡ tokens_from to near os 0 (drop to text)
-    by_order (inl w) = ap (λ i. tokens_from i near os 0 (drop i text)) (sym (h w))
-    by_order (inr w) = none_left at near os text (omega (arith, w)) ∙ sym (none_left to near os text (omega (arith, k w)))
+    by_order : (at < length text) ⊎ (length text ≤ at) → tokens_from at near os 0 (drop at text) ≡ tokens_from to near os 0 (drop to text)
+    by_order (inl w) = let same : at ≡ to = omega (arith, e, w) in ap (λ i. tokens_from i near os 0 (drop i text)) same
+    by_order (inr w) = none_left at near os text w ∙ sym (none_left to near os text (omega (arith, e, w)))
 
-advance : (text : List ℕ) (at to : ℕ) (near : Near) (os : List Opened) (c : Cut) → at < length text → c ≡ first_token (in_text os) at near (in_part os) (get_or text at 0) (drop (at + 1) text)
-    → (at + 1 + (c.size - 1) ≤ length text → to ≡ at + 1 + (c.size - 1)) → (length text < at + 1 + (c.size - 1) → to ≡ length text)
+advance : (text : List ℕ) (at to : ℕ) (near : Near) (os : List Opened) (c : Cut) → at < length text → c ≡ first_token (in_text os) at near (in_part os) (get_or text at 0) (drop (at + 1) text) → to ≡ min (at + 1 + (c.size - 1)) (length text)
     → tokens_from at near os 0 (drop at text) ≡ placed at c.token ++ tokens_from to (near_of c.token) (opened_by os (placed at c.token)) 0 (drop to text)
-advance text at to near os c h e k m =
+advance text at to near os c h e k =
     let found : List Placed = placed at c.token in
     let os' : List Opened = opened_by os (placed at c.token) in
     let near' : Near = near_of c.token in
     ap (tokens_from at near os 0) (head_of text at 0 h)
     ∙ ap (λ (d : Cut). placed at d.token ++ tokens_from (at + 1) (near_of d.token) (opened_by os (placed at d.token)) (d.size - 1) (drop (at + 1) text)) (sym e)
-    ∙ ap (λ l. found ++ l) (pass (c.size - 1) (at + 1) near' os' (drop (at + 1) text) ∙ ap (tokens_from (at + 1 + (c.size - 1)) near' os' 0) (drop-drop (c.size - 1) (at + 1) text) ∙ clamped (at + 1 + (c.size - 1)) to near' os' text k m)
+    ∙ ap (λ l. found ++ l) (pass (c.size - 1) (at + 1) near' os' (drop (at + 1) text) ∙ ap (tokens_from (at + 1 + (c.size - 1)) near' os' 0) (drop-drop (c.size - 1) (at + 1) text) ∙ clamped (at + 1 + (c.size - 1)) to near' os' text k)
 
 opened_append : (os : List Opened) (a b : List Placed) → opened_by os (a ++ b) ≡ opened_by (opened_by os a) b
 opened_append os [] b = refl
 opened_append os (p ∷ a) b = opened_append _ a b
 
-pub stepped : (text : List ℕ) (len : ℕ) (l m : Lexer) (c : Cut) → len ≡ length text → l.at < length text → c ≡ next_cut text l → m.list ≡ l.list ++ placed l.at c.token → reverse m.openings ≡ opened_by (reverse l.openings) (placed l.at c.token) → m.near ≡ near_of c.token
-    → l.at < m.at → m.at ≤ len → (l.at + 1 + (c.size - 1) ≤ len → m.at ≡ l.at + 1 + (c.size - 1)) → (len < l.at + 1 + (c.size - 1) → m.at ≡ len) → Steps text l m
-stepped text len l m c n h e list openings near f w k s =
-    let k' : l.at + 1 + (c.size - 1) ≤ length text → m.at ≡ l.at + 1 + (c.size - 1) = λ i. k (omega (arith, i, n)) in
-    let s' : length text < l.at + 1 + (c.size - 1) → m.at ≡ length text = λ i. s (omega (arith, i, n)) ∙ n in
-    let w' : m.at ≤ length text = omega (arith, w, n) in
-    record {
-      forth = f;
-      going = λ g. record {
-        within = w';
-        same = g.same ∙ ap (λ x. l.list ++ x) (advance text l.at m.at l.near (reverse l.openings) c h e k' s') ∙ sym (append_assoc l.list (placed l.at c.token) (tokens_from m.at (near_of c.token) (opened_by (reverse l.openings) (placed l.at c.token)) 0 (drop m.at text)))
-            ∙ ap (λ x. x ++ tokens_from m.at (near_of c.token) (opened_by (reverse l.openings) (placed l.at c.token)) 0 (drop m.at text)) (sym list)
-            ∙ ap (λ x. m.list ++ tokens_from m.at (near_of c.token) x 0 (drop m.at text)) (sym openings)
-            ∙ ap (λ x. m.list ++ tokens_from m.at x (reverse m.openings) 0 (drop m.at text)) (sym near);
-        left = ap (opened_by []) list ∙ opened_append [] l.list (placed l.at c.token) ∙ ap (λ os. opened_by os (placed l.at c.token)) g.left ∙ sym openings;
-      };
-    }
+pub stepped : (text : List ℕ) (l m : Lexer) (c : Cut) → l.at < length text → c ≡ next_cut text l → m.list ≡ l.list ++ placed l.at c.token → reverse m.openings ≡ opened_by (reverse l.openings) (placed l.at c.token) → m.near ≡ near_of c.token → m.at ≡ min (l.at + 1 + (c.size - 1)) (length text) → Steps text l m
+stepped text l m c h e list openings near k = record {
+  forth = omega (arith, h, k);
+  going = λ g. record {
+    within = omega (arith, k);
+    same = g.same ∙ ap (λ x. l.list ++ x) (advance text l.at m.at l.near (reverse l.openings) c h e k) ∙ sym (append_assoc l.list (placed l.at c.token) (tokens_from m.at (near_of c.token) (opened_by (reverse l.openings) (placed l.at c.token)) 0 (drop m.at text)))
+        ∙ ap (λ x. x ++ tokens_from m.at (near_of c.token) (opened_by (reverse l.openings) (placed l.at c.token)) 0 (drop m.at text)) (sym list)
+        ∙ ap (λ x. m.list ++ tokens_from m.at (near_of c.token) x 0 (drop m.at text)) (sym openings)
+        ∙ ap (λ x. m.list ++ tokens_from m.at x (reverse m.openings) 0 (drop m.at text)) (sym near);
+    left = ap (opened_by []) list ∙ opened_append [] l.list (placed l.at c.token) ∙ ap (λ os. opened_by os (placed l.at c.token)) g.left ∙ sym openings;
+  };
+}
 
 -- The beginning and the end.
 

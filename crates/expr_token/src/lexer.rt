@@ -1,5 +1,5 @@
 //! The tokens of texts.
-ghost use Rattle.std.specs.Prelude.{◌≡◌, ◌<◌, ◌≤◌, ◌+◌, ◌-◌, ◌++◌, length, drop, reverse, IfOk, OnOk};
+ghost use Rattle.std.specs.Prelude.{◌≡◌, ◌<◌, ◌+◌, ◌-◌, ◌++◌, length, drop, min, reverse, IfOk, OnOk};
 ghost use Rattle.std.specs.List.{slice_index};
 ghost use Rattle.expr_token.specs.Tokens.{passed, behind_piece, beginning, token_by, first_token, near_of, placed, opened_by, placed_tokens, left_open};
 ghost use Rattle.expr_token.specs.Lexing.{innermost, next_cut, Steps};
@@ -117,18 +117,9 @@ fn token_at(
 // Where a token of this size ends: behind its first byte, and within the text.
 fn end_of(at: usize, size: usize, length: usize) -> usize
     requires { at < length }
-    ensures after { at < result }
-    ensures within { result ≤ length }
-    ensures fits { at + 1 + (size - 1) ≤ length → result ≡ at + 1 + (size - 1) }
-    ensures short { length < at + 1 + (size - 1) → result ≡ length }
+    ensures { result ≡ min (at + 1 + (size - 1)) length }
 {
-    if size <= 1 {
-        return at + 1;
-    }
-    if size > length - at {
-        return length;
-    }
-    at + size
+    at + size.max(1).min(length - at)
 }
 
 // Adds a token, if there is one.
@@ -154,10 +145,7 @@ fn pass(lexer: &mut Lexer, cut: Cut, length: usize) -> Result<(), OutOfMemory>
     ensures list { OnOk result (lexer.new.list ≡ lexer.old.list ++ placed lexer.old.at cut.token) }
     ensures openings { OnOk result (reverse lexer.new.openings ≡ opened_by (reverse lexer.old.openings) (placed lexer.old.at cut.token)) }
     ensures near { OnOk result (lexer.new.near ≡ near_of cut.token) }
-    ensures after { OnOk result (lexer.old.at < lexer.new.at) }
-    ensures within { OnOk result (lexer.new.at ≤ length) }
-    ensures fits { OnOk result (lexer.old.at + 1 + (cut.size - 1) ≤ length → lexer.new.at ≡ lexer.old.at + 1 + (cut.size - 1)) }
-    ensures short { OnOk result (length < lexer.old.at + 1 + (cut.size - 1) → lexer.new.at ≡ length) }
+    ensures at { OnOk result (lexer.new.at ≡ min (lexer.old.at + 1 + (cut.size - 1)) length) }
 {
     let Cut { token, size } = cut;
     let near = near_of(&token);
@@ -185,8 +173,7 @@ fn step(alloc: Global, text: &str, lexer: &mut Lexer) -> Result<(), OutOfMemory>
     ensures { OnOk result (Steps text.now lexer.old lexer.new) }
 {
     let cut = next(alloc, text, lexer)?;
-    let length = text.len();
-    pass(lexer, cut, length)?;
+    pass(lexer, cut, text.len())?;
     Ok(())
 }
 

@@ -1,4 +1,5 @@
-use Rattle.std.proofs.Common.{◌≡◌, sym, ap, ◌∙◌}
+use Rattle.std.proofs.Common.{reverse, ap, ◌∙◌}
+use Rattle.expr_token.specs.Lexing.{innermost}
 use Rattle.expr_token.proofs.Passing.{started, all_read, all_left}
 use Rattle.expr_token.proofs.lexer.lex.Goals as goal
 
@@ -8,5 +9,8 @@ more-init c = started c.args.text.now c.new.result c.new-2.result c.new.ensures 
 pub more-preserved : goal.more-preserved
 more-preserved c = c.in_ok-step.ensures.going c.more.invariant
 
-pub returns : goal.returns
-returns c = ?
+pub returns-clause-tokens : goal.returns-clause-tokens
+returns-clause-tokens c = all_read c.args.text.now c.more.lexer c.more.invariant c.more-test.false
+
+pub returns-clause-open : goal.returns-clause-open
+returns-clause-open c = c.innermost-unclosed.ensures ∙ ap (λ os. innermost (reverse os)) c.as_slice.ensures ∙ ap innermost (all_left c.args.text.now c.more.lexer c.more.invariant c.more-test.false)

@@ -1,8 +1,5 @@
-use Rattle.std.proofs.Common.{◌≡◌, sym, ap, ◌∙◌}
 use Rattle.expr_token.proofs.Passing.{stepped}
 use Rattle.expr_token.proofs.lexer.step.Goals as goal
 
 pub returns : goal.returns
-returns c =
-    stepped c.args.text.now c.len-length.result c.args.lexer.now c.pass.new.lexer c.in_ok-cut.cut c.len-length.ensures c.requires c.in_ok-cut.ensures c.in_ok-pass.ensures.list c.in_ok-pass.ensures.openings c.in_ok-pass.ensures.near
-    c.in_ok-pass.ensures.after c.in_ok-pass.ensures.within c.in_ok-pass.ensures.fits c.in_ok-pass.ensures.short
+returns c = stepped c.args.text.now c.args.lexer.now c.pass.new.lexer c.in_ok-cut.cut c.requires c.in_ok-cut.ensures c.in_ok-pass.ensures.list c.in_ok-pass.ensures.openings c.in_ok-pass.ensures.near c.in_ok-pass.ensures.at
