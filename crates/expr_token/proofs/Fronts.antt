@@ -1,18 +1,17 @@
 -- Names, modules and marks are ASCII fronts of the text that they stand in.
-use Rattle.std.proofs.Common.{◌≡◌, ℕ, zero, suc, ◌+◌, ◌-◌, ◌<◌, ◌≤◌, List, [], ◌∷◌, ◌++◌, length, take, drop, get_or, Bool, true, false, not, ◌&&◌, ◌||◌, Option, Some, None, codes, refl, sym, ap, ◌∙◌, subst, arith, append_assoc, length-append}
-use Rattle.std.specs.Prelude.{nat_eq, nat_le, if◌then◌else◌}
+use Rattle.std.proofs.Common.{◌≡◌, ℕ, zero, suc, ◌+◌, ◌-◌, ◌<◌, ◌≤◌, List, [], ◌∷◌, ◌++◌, length, take, drop, get_or, Bool, true, false, not, ◌&&◌, ◌||◌, codes, refl, sym, ap, ◌∙◌, subst, arith, append_assoc, length-append}
+use Rattle.std.specs.Prelude.{nat_eq, if◌then◌else◌}
 use Rattle.std.specs.Prelude.{cond}
-use Rattle.std.specs.List.{prefix_len, starts_with}
+use Rattle.std.specs.List.{prefix_len}
 use Rattle.std.specs.Str.{IsAscii, IsUtf8, IsCharBoundary}
-use Rattle.std.specs.Char.{is_ascii_uppercase, is_ascii_alphanumeric}
+use Rattle.std.specs.Char.{is_ascii_uppercase}
 use Rattle.std.specs.Cmp.Lexicographic.{same_text}
 use Rattle.std.proofs.lemmas.Bool.{eqb-true}
-use Rattle.std.proofs.lemmas.Bool.Decides.{leb_tells, nat_tests}
+use Rattle.std.proofs.lemmas.Bool.Decides.{nat_tests}
 use Rattle.std.proofs.lemmas.List.{take-append-drop, get_or-take, get_or-drop, drop-drop}
 use Rattle.std.proofs.lemmas.Str.{IsAscii-append, IsCharBoundary-before_ascii, IsCharBoundary-after_ascii}
 use Rattle.std.proofs.lemmas.Str.Ascii.{IsAscii-nil}
 use Rattle.std.proofs.Math.Seq.{take-append_seam, drop-append_seam}
-use Rattle.expr_token.specs.declared.token.Token.{Token}
 use Rattle.expr_token.specs.declared.token.Cut.{Cut}
 use Rattle.expr_token.specs.declared.token.Near.{Near}
 use Rattle.expr_token.specs.declared.token.Token.TheVariants.{Word, Function, Atom, Colon, Foreign}

@@ -3,7 +3,7 @@ ghost use Rattle.std.specs.Prelude.{◌≡◌, ◌≤◌, length};
 ghost use Rattle.expr_token.specs.Tokens.{digits_go_on, digits_of, value_with, value_of, fitting, number};
 
 use crate::byte::begins_with_digit;
-use crate::token::{Cut, Token};
+use crate::token::{Cut, Token, sized};
 
 /// The greatest number that can be written.
 const MOST: u64 = 9223372036854775807;
@@ -72,8 +72,5 @@ pub(crate) fn number(rest: &[u8]) -> Cut
         Some(value) => Token::Number(value as i64),
         None => Token::BadNumber,
     };
-    Cut {
-        token: Some(token),
-        size,
-    }
+    sized(token, size)
 }

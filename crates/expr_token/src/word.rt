@@ -4,7 +4,7 @@ ghost use Rattle.std.specs.Str.{IsAscii};
 ghost use Rattle.expr_token.specs.Tokens.{first_is, begins_name, name_of, reserved_token, is_reserved, call_mark, word_or_function, reserved_word, word};
 
 use crate::byte::{begins_with, name_length};
-use crate::token::{Cut, Token};
+use crate::token::{Cut, Token, sized};
 use ast_core::BinaryOp;
 use std::alloc::Global;
 use text_core::{OutOfMemory, Text};
@@ -53,9 +53,7 @@ fn reserved_token(name: &[u8]) -> Option<Token>
 pub(crate) fn call_mark(behind: &[u8]) -> usize
     ensures { result ≡ length (call_mark behind.now) }
 {
-    if begins_with(behind, b"?(") {
-        1
-    } else if begins_with(behind, b"!(") {
+    if begins_with(behind, b"?(") || begins_with(behind, b"!(") {
         1
     } else {
         0
@@ -84,21 +82,12 @@ fn reserved_word(token: Token, name: &[u8], behind: &[u8]) -> Cut
 {
     let colon = begins_with(behind, b":");
     if colon && name == b"do".as_slice() {
-        return Cut {
-            token: Some(Token::DoColon),
-            size: 3,
-        };
+        return sized(Token::DoColon, 3);
     }
     if colon && name == b"else".as_slice() {
-        return Cut {
-            token: Some(Token::ElseColon),
-            size: 5,
-        };
+        return sized(Token::ElseColon, 5);
     }
-    Cut {
-        token: Some(token),
-        size: name.len(),
-    }
+    sized(token, name.len())
 }
 
 // A name, or what a mark makes the name of a call.
@@ -116,17 +105,11 @@ fn name_or_function(
 {
     if mark == 0 {
         let name = copy_ascii(alloc, text, at, size)?;
-        return Ok(Cut {
-            token: Some(Token::Word { at, name }),
-            size,
-        });
+        return Ok(sized(Token::Word { at, name }, size));
     }
     let full = size + mark;
     let name = copy_ascii(alloc, text, at, full)?;
-    Ok(Cut {
-        token: Some(Token::Function { at, name }),
-        size: full,
-    })
+    Ok(sized(Token::Function { at, name }, full))
 }
 
 /// What begins with a small letter or `_`.

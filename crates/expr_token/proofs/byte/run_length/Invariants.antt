@@ -1,4 +1,4 @@
-use Rattle.std.proofs.Common.{◌≡◌, ◌≤◌, ◌+◌, ◌-◌, ◌<◌, drop, length, ℕ, List}
+use Rattle.std.proofs.Common.{◌≡◌, ◌≤◌, ◌+◌, ◌-◌, drop, length, ℕ, List}
 use Rattle.std.specs.List.{prefix_len}
 use Rattle.expr_token.specs.Tokens.{in_name}
 use Rattle.expr_token.proofs.byte.run_length.Given as goal

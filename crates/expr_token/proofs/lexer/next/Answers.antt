@@ -1,4 +1,4 @@
-use Rattle.std.proofs.Common.{◌≡◌, IfOk, sym, ap, ◌∙◌, subst}
+use Rattle.std.proofs.Common.{◌≡◌, IfOk, subst}
 use Rattle.expr_token.proofs.Passing.{next_by}
 use Rattle.expr_token.proofs.lexer.next.Goals as goal
 

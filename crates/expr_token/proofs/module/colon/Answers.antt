@@ -1,6 +1,5 @@
-use Rattle.std.proofs.Common.{◌≡◌, ◌+◌, length, drop, take, ℕ, List, Some, arith, sym, ap, ◌∙◌}
+use Rattle.std.proofs.Common.{◌≡◌, ◌+◌, length, drop, sym, ap, ◌∙◌}
 use Rattle.expr_token.specs.declared.token.Token.TheVariants.{Atom}
-use Rattle.expr_token.specs.Tokens.{cut, colon}
 use Rattle.expr_token.proofs.Lexes.{cut_eq}
 use Rattle.expr_token.proofs.Fronts.{front_first, front_from, atom_of, atom_front, atom_called, atom_found}
 use Rattle.expr_token.proofs.module.colon.Goals as goal

@@ -1,5 +1,5 @@
-use Rattle.std.proofs.Common.{◌≡◌, ◌≤◌, length, ℕ, ◌+◌, ◌<◌, List, drop, arith, sym, ap, ◌∙◌}
-use Rattle.expr_token.specs.Tokens.{module_goes_on, module_of}
+use Rattle.std.proofs.Common.{◌≡◌, drop, arith, sym, ap, ◌∙◌}
+use Rattle.expr_token.specs.Tokens.{module_goes_on}
 use Rattle.expr_token.proofs.Lexes.{module_step}
 use Rattle.expr_token.proofs.module.module_length.Goals as goal
 

@@ -1,7 +1,6 @@
-use Rattle.std.proofs.Common.{◌≡◌, ◌≤◌, ◌<◌, ◌+◌, ◌++◌, length, drop, take, ℕ, List, Bool, true, false, Some, codes, arith, sym, ap, ◌∙◌, subst}
-use Rattle.std.specs.Str.{IsAscii}
+use Rattle.std.proofs.Common.{◌≡◌, ◌+◌, length, drop, take, ℕ, List, true, false, codes, arith, sym, ap, ◌∙◌}
 use Rattle.expr_token.specs.declared.token.Token.TheVariants.{Function}
-use Rattle.expr_token.specs.Tokens.{begins, begins_name, first_is, is_reserved, module_of, name_of, call_mark, cut, module_word}
+use Rattle.expr_token.specs.Tokens.{begins, begins_name, first_is, is_reserved, module_of, name_of, call_mark}
 use Rattle.expr_token.proofs.Lexes.{cut_eq}
 use Rattle.expr_token.proofs.Fronts.{front_module, front_name, front_le, front_first, front_from, behind_module, behind_dot, behind_called, full_of, module_front, module_length, module_called}
 use Rattle.expr_token.proofs.module.module_word.Goals as goal

@@ -1,5 +1,5 @@
-use Rattle.std.proofs.Common.{◌≡◌, ◌≤◌, length, ℕ, ◌+◌, ◌<◌, List, drop, arith, sym, ap, ◌∙◌}
-use Rattle.expr_token.specs.Tokens.{digits_go_on, digits_of}
+use Rattle.std.proofs.Common.{◌≡◌, drop, arith, sym, ap, ◌∙◌}
+use Rattle.expr_token.specs.Tokens.{digits_go_on}
 use Rattle.expr_token.proofs.Lexes.{digits_step}
 use Rattle.expr_token.proofs.number.digits_length.Goals as goal
 

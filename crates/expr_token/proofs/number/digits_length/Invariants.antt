@@ -1,4 +1,4 @@
-use Rattle.std.proofs.Common.{◌≡◌, ◌≤◌, ◌+◌, ◌-◌, ◌<◌, drop, length, ℕ, List}
+use Rattle.std.proofs.Common.{◌≡◌, ◌≤◌, ◌+◌, ◌-◌, drop, length, ℕ, List}
 use Rattle.expr_token.specs.Tokens.{digits_of}
 use Rattle.expr_token.proofs.number.digits_length.Given as goal
 

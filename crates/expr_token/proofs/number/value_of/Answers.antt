@@ -1,4 +1,4 @@
-use Rattle.std.proofs.Common.{◌≡◌, length, ℕ, ◌+◌, List, ◌∷◌, drop, get_or, Option, None, sym, ap, ◌∙◌}
+use Rattle.std.proofs.Common.{◌≡◌, ◌+◌, drop, get_or, None, sym, ap, ◌∙◌}
 use Rattle.expr_token.specs.Tokens.{value_with, value_of, fitting}
 use Rattle.expr_token.proofs.Lexes.{head_of, stays_large}
 use Rattle.expr_token.proofs.number.value_of.Goals as goal

@@ -1,4 +1,4 @@
-use Rattle.std.proofs.Common.{◌≡◌, sym, ap, ◌∙◌}
+use Rattle.std.proofs.Common.{◌∙◌}
 use Rattle.expr_token.proofs.Passing.{last_innermost}
 use Rattle.expr_token.proofs.opening.innermost.Goals as goal
 

@@ -1,4 +1,4 @@
-use Rattle.std.proofs.Common.{ℕ, List, length, ◌-◌}
+use Rattle.std.proofs.Common.{length, ◌-◌}
 use Rattle.expr_token.proofs.PieceFacts.{Going}
 use Rattle.expr_token.proofs.piece.piece.Given as goal
 

@@ -1,6 +1,5 @@
-use Rattle.std.proofs.Common.{◌≡◌, ◌≤◌, ◌+◌, length, drop, ℕ, List, arith, sym, ap, ◌∙◌}
+use Rattle.std.proofs.Common.{drop, arith, ap, ◌∙◌}
 use Rattle.std.specs.List.{prefix_len}
-use Rattle.std.specs.Str.{IsCharBoundary}
 use Rattle.expr_token.specs.Pieces.{is_plain}
 use Rattle.expr_token.proofs.PieceFacts.{run_cut}
 use Rattle.expr_token.proofs.piece.push_run.Goals as goal

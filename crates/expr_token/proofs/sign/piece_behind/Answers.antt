@@ -1,4 +1,3 @@
-use Rattle.std.proofs.Common.{◌≡◌, ◌+◌, drop, ℕ, List, ap, sym, ◌∙◌}
 use Rattle.std.proofs.lemmas.Str.{IsCharBoundary-after_ascii}
 use Rattle.expr_token.proofs.sign.piece_behind.Goals as goal
 

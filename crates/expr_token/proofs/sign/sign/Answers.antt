@@ -1,4 +1,4 @@
-use Rattle.std.proofs.Common.{◌≡◌, ◌+◌, drop, ℕ, List, codes, true, false, IfOk, ap, sym, ◌∙◌, subst}
+use Rattle.std.proofs.Common.{◌≡◌, drop, codes, IfOk, ap, sym, ◌∙◌, subst}
 use Rattle.expr_token.specs.Tokens.{begins}
 use Rattle.expr_token.proofs.Fronts.{brace_ascii, colon_sign}
 use Rattle.expr_token.proofs.sign.sign.Goals as goal

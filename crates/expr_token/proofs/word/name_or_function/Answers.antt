@@ -1,4 +1,4 @@
-use Rattle.std.proofs.Common.{◌≡◌, ◌<◌, ◌+◌, ◌++◌, length, drop, take, ℕ, List, Some, arith, sym, ap, ◌∙◌}
+use Rattle.std.proofs.Common.{◌≡◌, ◌<◌, ◌+◌, ◌++◌, length, drop, arith, sym, ap, ◌∙◌}
 use Rattle.expr_token.specs.declared.token.Token.TheVariants.{Function}
 use Rattle.expr_token.specs.Tokens.{name_of, call_mark}
 use Rattle.expr_token.proofs.Lexes.{cut_eq}
@@ -23,4 +23,4 @@ returns c =
     let n : c.args.size + c.args.mark ≡ length full = full_length bs c.args.size c.args.mark c.requires.name c.requires.mark in
     let name : c.in_ok-name-2.name ≡ full = c.in_ok-name-2.ensures ∙ front_first bs full (c.args.size + c.args.mark) (full_front bs c.args.size c.requires.name) n in
     let some : 0 < length mark = omega (arith, c.requires.mark, c.if-mark-eq0.false) in
-    cut_eq (Function c.args.at c.in_ok-name-2.name) (Function c.args.at full) (c.args.size + c.args.mark) (length full) (ap (Function c.args.at) name) n ∙ sym (word_marked c.args.at (name_of bs) mark some)
+    c.sized-2.ensures ∙ cut_eq (Function c.args.at c.in_ok-name-2.name) (Function c.args.at full) (c.args.size + c.args.mark) (length full) (ap (Function c.args.at) name) n ∙ sym (word_marked c.args.at (name_of bs) mark some)
