@@ -10,7 +10,7 @@ use Rattle.expr_token.specs.declared.token.Placed.{Placed}
 use Rattle.expr_token.specs.declared.token.Cut.{Cut}
 use Rattle.expr_token.specs.declared.token.Near.{Near}
 use Rattle.expr_token.specs.declared.token.Opened.{Opened}
-use Rattle.expr_token.specs.Tokens.{Row, reserved, reserved_token, name_of, call_mark, begins, value_of, digits_of, long_signs, short_signs, token_where, cut, passed, word_by, word, word_or_function, reserved_word, module_word, number, number_token, fitting, colon, with_piece, sign_token, short_by, long_by, sign, behind_piece, Beginning, white, lower, upper, digit, quote, other, beginning, token_by, first_token, placed, opened_by, tokens_from, placed_tokens, near_of, in_text, in_part}
+use Rattle.expr_token.specs.Tokens.{Row, reserved, reserved_token, name_of, call_mark, begins, value_of, digits_of, long_signs, short_signs, token_where, cut, passed, word_by, word, word_or_function, reserved_word, module_word, number, number_token, fitting, colon, with_piece, short_by, long_by, sign, behind_piece, Beginning, white, lower, upper, digit, quote, other, beginning, token_by, first_token, placed, opened_by, tokens_from, placed_tokens, near_of, in_text, in_part}
 use Rattle.expr_core.specs.SeenPattern.{IsPlain}
 use Rattle.expr_core.specs.Gives.{spelled}
 
@@ -48,15 +48,20 @@ plain_long : PlainRows long_signs
 plain_long = (tt, tt, tt, tt, tt, tt, tt, tt, tt, tt, tt, tt)
 
 plain_short : PlainRows short_signs
-plain_short = (tt, tt, tt, tt, tt, tt, tt, tt, tt, tt, tt, tt, tt, tt, tt, tt, tt)
+plain_short = (tt, tt, tt, tt, tt, tt, tt, tt, tt, tt, tt, tt)
 
 plain_function : (at : ℕ) (name mark : List ℕ) → PlainCut (word_or_function at name mark)
 plain_function at name [] = tt
 plain_function at name (m ∷ ms) = tt
 
+plain_reserved_word : (t : Token) (name rest : List ℕ) → IsPlain t → PlainCut (reserved_word t name rest)
+plain_reserved_word t name rest h =
+    plain_if (bytes_eq name (codes "do") && begins (codes ":") rest) (cut tokens.DoColon 3) (if bytes_eq name (codes "else") && begins (codes ":") rest then cut tokens.ElseColon 5 else cut t (length name)) tt
+      (plain_if (bytes_eq name (codes "else") && begins (codes ":") rest) (cut tokens.ElseColon 5) (cut t (length name)) tt h)
+
 plain_by : (t : Option Token) (at : ℕ) (name rest : List ℕ) → PlainOption t → PlainCut (word_by t at name rest)
 plain_by None at name rest h = plain_function at name (call_mark rest)
-plain_by (Some t) at name rest h = plain_if _ _ _ tt (plain_if _ _ _ tt h)
+plain_by (Some t) at name rest h = plain_reserved_word t name rest h
 
 plain_number : (n : Option ℕ) → IsPlain (number_token n)
 plain_number None = tt
@@ -65,23 +70,22 @@ plain_number (Some n) = tt
 plain_colon : (bs : List ℕ) → PlainCut (colon bs)
 plain_colon bs = plain_if _ _ _ tt (plain_if _ _ _ tt tt)
 
-plain_sign : (near : Near) (part : Bool) (t : Token) (rest : List ℕ) → IsPlain t → PlainCut (sign_token near part t rest)
-plain_sign near part tokens.OpeningRound rest h = plain_either near.name tokens.CallOpening tokens.OpeningRound tt tt
-plain_sign near part tokens.OpeningSquare rest h = plain_either near.value tokens.IndexOpening tokens.OpeningSquare tt tt
-plain_sign near part tokens.Dot rest h = plain_either near.value tokens.Dot tokens.Foreign tt tt
-plain_sign near part (tokens.Closing Curly) rest h = plain_if part _ _ tt tt
-plain_sign near part (tokens.Closing Round) rest h = tt
-plain_sign near part (tokens.Closing Square) rest h = tt
-plain_sign near part tokens.Colon rest h = plain_colon rest
-plain_sign near part t rest h = h
+plain_short_by : (t : Option Token) → PlainOption t → PlainCut (short_by t)
+plain_short_by None h = tt
+plain_short_by (Some t) h = h
 
-plain_short_by : (t : Option Token) (near : Near) (part : Bool) (bs : List ℕ) → PlainOption t → PlainCut (short_by t near part bs)
-plain_short_by None near part bs h = tt
-plain_short_by (Some t) near part bs h = plain_sign near part t (drop 1 bs) h
+plain_long_by : (t : Option Token) (bs : List ℕ) → PlainOption t → PlainCut (long_by t bs)
+plain_long_by None bs h = plain_short_by (token_where (λ s. begins s bs) short_signs) (plain_where (λ s. begins s bs) short_signs plain_short)
+plain_long_by (Some t) bs h = h
 
-plain_long_by : (t : Option Token) (near : Near) (part : Bool) (bs : List ℕ) → PlainOption t → PlainCut (long_by t near part bs)
-plain_long_by None near part bs h = plain_short_by (token_where (λ s. begins s bs) short_signs) near part bs (plain_where (λ s. begins s bs) short_signs plain_short)
-plain_long_by (Some t) near part bs h = h
+plain_sign : (near : Near) (part : Bool) (bs : List ℕ) → PlainCut (sign near part bs)
+plain_sign near part bs =
+    plain_if _ _ _ (plain_either near.name tokens.CallOpening tokens.OpeningRound tt tt)
+      (plain_if _ _ _ (plain_either near.value tokens.IndexOpening tokens.OpeningSquare tt tt)
+        (plain_if _ _ _ (plain_either near.value tokens.Dot tokens.Foreign tt tt)
+          (plain_if _ _ _ (plain_colon (drop 1 bs))
+            (plain_if _ _ _ (plain_if part (with_piece tokens.PartClosing (drop 1 bs)) (cut (tokens.Closing Curly) 1) tt tt)
+              (plain_long_by (token_where (λ s. begins s bs) long_signs) bs (plain_where (λ s. begins s bs) long_signs plain_long))))))
 
 plain_token : (k : Beginning) (at : ℕ) (near : Near) (part : Bool) (bs : List ℕ) → PlainCut (token_by k at near part bs)
 plain_token white at near part bs = tt
@@ -89,7 +93,7 @@ plain_token lower at near part bs = plain_by (reserved_token (name_of bs)) at (n
 plain_token upper at near part bs = plain_if _ _ _ tt tt
 plain_token digit at near part bs = plain_number (fitting (value_of 0 (digits_of bs)))
 plain_token quote at near part bs = tt
-plain_token other at near part bs = plain_long_by (token_where (λ s. begins s bs) long_signs) near part bs (plain_where (λ s. begins s bs) long_signs plain_long)
+plain_token other at near part bs = plain_sign near part bs
 
 plain_first : (inside : Bool) (at : ℕ) (near : Near) (part : Bool) (b : ℕ) (bs : List ℕ) → PlainCut (first_token inside at near part b bs)
 plain_first true at near part b bs = plain_if _ _ _ tt (plain_if _ _ _ tt (plain_if _ _ _ tt tt))
