@@ -31,7 +31,7 @@ impl From<OutOfMemory> for ExprFault {
 }
 
 // The byte of the n-th token.
-#[tactic(auto, using(crate::proofs::Told::byte_get))]
+#[tactic(auto, using(crate::proofs::Told::byte_at, crate::proofs::Told::byte_none))]
 fn byte_of(tokens: &[Placed], n: usize) -> usize
     ensures { result ≡ byte_of tokens.now n }
 {
