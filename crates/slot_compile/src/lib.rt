@@ -4,6 +4,8 @@
 mod compiled;
 mod formula;
 mod laws;
+#[cfg(test)]
+mod tests;
 
 pub use compiled::{Compiled, Interpolation};
 pub use formula::Formula;
