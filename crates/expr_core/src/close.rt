@@ -287,16 +287,7 @@ fn part_ended(
 {
     match frame {
         Frame::Putting(parts, unknown) => next_part(alloc, text, parts, unknown, value),
-        Frame::Paren => Ok(None),
-        Frame::Indexed(_left) => Ok(None),
-        Frame::Items(_opener, _items, _unknown) => Ok(None),
-        Frame::Valued(_pairs, _unknown, _key) => Ok(None),
-        Frame::Yes(_style, _test) => Ok(None),
-        Frame::No(_style, _test, _yes) => Ok(None),
-        Frame::Operand(_op, _left) => Ok(None),
-        Frame::Ahead(_op) => Ok(None),
-        Frame::Test => Ok(None),
-        Frame::InnerTest => Ok(None),
+        _other => Ok(None),
     }
 }
 
