@@ -18,7 +18,7 @@ use Rattle.ast_core.specs.declared.expr.TextPart.TheVariants as pieces
 use Rattle.ast_core.specs.declared.expr.Expr.TheViews.{roll-Expr, roll-PathStep, roll-TextPart, roll-Operand, roll-Pair, roll-PipeCall}
 use Rattle.ast_core.specs.declared.expr.Expr.TheFolds.{map-Expr, map-PathStep, map-TextPart, fold-roll-Expr, fold-roll-PathStep, fold-roll-TextPart, fold-roll-Operand, fold-roll-Pair, fold-roll-PipeCall}
 use Rattle.ast_core.specs.Syntax as model
-use Rattle.ast_core.specs.Syntax.{Exprs, expr, no_exprs}
+use Rattle.ast_core.specs.Syntax.{Exprs, expr}
 use Rattle.ast_core.specs.ExprView.{Part, plain_part, expr_part, Step, field_step, index_step, exprs_of, pairs_of, parts_of, path_of, left_chain, right_chain, pipes_of, expr_view, expr_step, path_step, part_step, operand_step, pair_step, call_step}
 use Rattle.ast_core.specs.NamesIn.{part_view, pair_view, step_view, operand_view, call_view}
 use Rattle.expr_core.specs.Grammar.{plain_parts}
