@@ -1,5 +1,5 @@
 //! What is begun, as a pile.
-ghost use Rattle.std.specs.Prelude.{◌≡◌, ◌+◌, ◌≤◌, ◌∷◌, [], OnOk, MatchOption, option_map};
+ghost use Rattle.std.specs.Prelude.{◌≡◌, ◌+◌, ◌≤◌, ◌∷◌, [], OnOk, MatchOption};
 ghost use Rattle.std.specs.Option.{option_copied};
 ghost use Rattle.expr_core.specs.Machine.{nest};
 ghost use Rattle.expr_core.specs.Seen.{seen, first_of, level, style_level};
@@ -50,7 +50,6 @@ impl Model for Pile {
     ghost use Rattle.std.specs.Prelude.{List};
     ghost use Rattle.expr_core.specs.declared.frame.Frame.{Frame};
     ghost use Rattle.expr_core.specs.Seen.{stack, Counts};
-
     ghost use Rattle.std.specs.Coded.{codes};
     ghost use Rattle.ast_core.specs.contracts.expr.Expr as e;
     ghost use Rattle.ast_core.specs.contracts.expr.Pair as p;
@@ -106,14 +105,10 @@ impl Pile {
     }
 
     /// The innermost.
-    #[tactic(auto, using(crate::proofs::Stacks::top_last, crate::proofs::Stacks::top_none))]
+    #[tactic(auto, using(crate::proofs::Stacks::top_last))]
     pub(crate) fn top(&self) -> Option<&Frame>
         ensures { option_copied result ≡ first_of self.now }
     {
-        let frames = self.frames.as_slice();
-        if frames.is_empty() {
-            return None;
-        }
-        frames.get(frames.len() - 1)
+        self.frames.as_slice().last()
     }
 }
