@@ -52,9 +52,9 @@ value_of e u d = record { meant = meant e u; holds = 7; denies = d; callee = Non
 pub gathered_seen : (g : Gathered) (b : Box Expr Global) (os : List Operand) → b.value ≡ g.first.meant.expr → os ≡ reverse g.behind → value_view (record { meant = record { expr = form.RightChain b os; unknown = g.unknown }; holds = 7; denies = g.first.denies; callee = None }) ≡ gathered_view g
 gathered_seen g b os p q =
     ap (λ (e : model.Expr). value_of e g.unknown g.first.denies)
-      (sees_right b os
-        ∙ ap (λ (e : Expr). right_chain (expr_view e) (map operand_view os)) p
-        ∙ ap (λ (l : List Operand). right_chain (expr_view g.first.meant.expr) (map operand_view l)) q)
+    (sees_right b os
+    ∙ ap (λ (e : Expr). right_chain (expr_view e) (map operand_view os)) p
+    ∙ ap (λ (l : List Operand). right_chain (expr_view g.first.meant.expr) (map operand_view l)) q)
 
 -- what was kept so far is kept by the chain
 pub chain_keeps : {E : Type 0} (r : Result Value E) (u w : machine.Value) (fs gs : machine.Frames) → ((n : ℕ) → n ≤ 7 → machine.reduce n u fs ≡ machine.reduce n w gs) → IfOk r (λ v. value_view v ≡ w) → IfOk r (λ v. (n : ℕ) → n ≤ 7 → machine.reduce n u fs ≡ machine.reduce n (value_view v) gs)

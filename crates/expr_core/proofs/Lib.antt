@@ -20,3 +20,4 @@ pub mod PatternForms
 pub mod Chains
 pub mod Plain
 pub mod Told
+pub mod Folds

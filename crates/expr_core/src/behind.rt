@@ -13,9 +13,9 @@ use crate::frame::{Frame, Mode, Opener};
 use crate::functions::earlier;
 use crate::pile::Pile;
 use crate::reduce::{left_of, need, reduce};
-use expr_token::Token;
 use crate::value::{Callee, Style, Value, binds};
 use ast_core::{BinaryOp, Expr, Pair};
+use expr_token::Token;
 use std::alloc::Global;
 use text_core::{OutOfMemory, Seq, Text};
 
@@ -43,11 +43,7 @@ fn operator_fits(op: BinaryOp, value: &Value, frames: &Pile) -> bool
     may_deny(op, value.denies)
 }
 
-fn put_operator(
-    op: BinaryOp,
-    value: Value,
-    frames: &mut Pile,
-) -> Result<Option<Mode>, OutOfMemory>
+fn put_operator(op: BinaryOp, value: Value, frames: &mut Pile) -> Result<Option<Mode>, OutOfMemory>
     ensures { IfOk result (λ mode. machine.put_operator op (value_view value) (seen frames.old) ≡ led mode (seen frames.new)) }
 {
     if !operator_fits(op, &value, frames) {

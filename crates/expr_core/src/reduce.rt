@@ -1,12 +1,15 @@
 //! What binds tightly enough is put together.
-ghost use Rattle.std.specs.Prelude.{◌≡◌, ◌<◌, IfOk};
-ghost use Rattle.expr_core.specs.Grammar.{left_of as left_bound, right_of as right_bound};
+ghost use Rattle.std.specs.Prelude.{◌≡◌, ◌<◌, ◌≤◌, IfOk, length};
+ghost use Rattle.expr_core.specs.Gathers.{KeepsReduced, FoldsOn};
+ghost use Rattle.expr_core.specs.Grammar.{binds as binding_of, left_of as left_bound, right_of as right_bound};
 ghost use Rattle.expr_core.specs.Machine as machine;
 ghost use Rattle.expr_core.specs.Seen.{value_view, seen, first_of, is_closed_by, folded};
 
+use crate::chain::gather;
 use crate::frame::Frame;
 use crate::pile::Pile;
 use crate::value::{Style, Value, alone, binds, both, chosen, chosen_else};
+use ast_core::BinaryOp;
 use std::alloc::Global;
 use text_core::OutOfMemory;
 
@@ -42,6 +45,41 @@ fn fold(alloc: Global, frame: Frame, value: Value) -> Result<Value, OutOfMemory>
     }
 }
 
+// An operator with its operands; one that groups to the right takes those of its kind before it as well.
+#[tactic(auto, using(crate::proofs::Folds::kept_both))]
+fn with_left(
+    alloc: Global,
+    op: BinaryOp,
+    left: Value,
+    right: Value,
+    frames: &mut Pile,
+) -> Result<Value, OutOfMemory>
+    ensures value { KeepsReduced (binding_of op) (machine.both op (value_view left) (value_view right)) frames.old frames.new result }
+    ensures fewer { IfOk result (λ v. length frames.new ≤ length frames.old) }
+{
+    if binds(op) == 7 {
+        return gather(alloc, op, left, right, frames);
+    }
+    both(alloc, op, left, right)
+}
+
+// A value with the frame that waited for it.
+#[tactic(auto, using(crate::proofs::Folds::kept_frame, crate::proofs::Folds::kept_operand))]
+fn fold_on(
+    alloc: Global,
+    frame: Frame,
+    value: Value,
+    frames: &mut Pile,
+) -> Result<Value, OutOfMemory>
+    ensures value { FoldsOn frame (value_view value) frames.old frames.new result }
+    ensures fewer { IfOk result (λ v. length frames.new ≤ length frames.old) }
+{
+    match frame {
+        Frame::Operand(op, left) => with_left(alloc, op, left, value, frames),
+        other => fold(alloc, other, value),
+    }
+}
+
 /// Puts together what binds at least so tightly.
 #[tactic(auto, using(crate::proofs::Stacks::reduce_stays, crate::proofs::Stacks::reduce_goes))]
 pub(crate) fn reduce(
@@ -55,7 +93,7 @@ pub(crate) fn reduce(
     let mut value = value;
     'fold: while is_closed_by(least, frames) {
         match frames.pop() {
-            Some(frame) => value = fold(alloc, frame, value)?,
+            Some(frame) => value = fold_on(alloc, frame, value, frames)?,
             None => unreachable!(),
         }
     }
