@@ -1,6 +1,6 @@
 -- Operators that group to the right, gathered from the last one.
-use Rattle.std.proofs.Common.{◌≡◌, ℕ, ◌≤◌, List, [], ◌∷◌, ◌++◌, map, Bool, true, false, Option, Some, None, Box, refl, sym, ap, ◌∙◌, arith}
-use Rattle.std.specs.Prelude.{nat_le, nat_eq, if◌then◌else◌, reverse, Result, Ok, Err, IfOk}
+use Rattle.std.proofs.Common.{◌≡◌, ℕ, ◌≤◌, List, [], ◌∷◌, ◌++◌, map, Bool, true, Option, Some, None, Box, sym, ap, ◌∙◌, arith}
+use Rattle.std.specs.Prelude.{reverse, Result, Ok, Err, IfOk}
 use Rattle.std.proofs.lemmas.Bool.{le-leb, eqb-true}
 use Rattle.std.proofs.lemmas.List.{reverse-append}
 use Rattle.ast_core.specs.Syntax as model
@@ -17,7 +17,7 @@ use Rattle.expr_core.specs.declared.value.Value.{Value}
 use Rattle.expr_core.specs.declared.chain.Gathered.{Gathered}
 use Rattle.expr_core.specs.Grammar.{binds, meant}
 use Rattle.expr_core.specs.Machine as machine
-use Rattle.expr_core.specs.Seen.{value_view, seen, first_of, folded, is_closed_by}
+use Rattle.expr_core.specs.Seen.{value_view, seen, folded, is_closed_by}
 use Rattle.expr_core.specs.Gathers.{groups_right, gathered_view}
 use Rattle.expr_core.proofs.Forms.{sees_right}
 use Rattle.expr_core.proofs.Stacks.{reduce_goes}
@@ -52,9 +52,9 @@ value_of e u d = record { meant = meant e u; holds = 7; denies = d; callee = Non
 pub gathered_seen : (g : Gathered) (b : Box Expr Global) (os : List Operand) → b.value ≡ g.first.meant.expr → os ≡ reverse g.behind → value_view (record { meant = record { expr = form.RightChain b os; unknown = g.unknown }; holds = 7; denies = g.first.denies; callee = None }) ≡ gathered_view g
 gathered_seen g b os p q =
     ap (λ (e : model.Expr). value_of e g.unknown g.first.denies)
-      (sees_right b os
-        ∙ ap (λ (e : Expr). right_chain (expr_view e) (map operand_view os)) p
-        ∙ ap (λ (l : List Operand). right_chain (expr_view g.first.meant.expr) (map operand_view l)) q)
+    (sees_right b os
+    ∙ ap (λ (e : Expr). right_chain (expr_view e) (map operand_view os)) p
+    ∙ ap (λ (l : List Operand). right_chain (expr_view g.first.meant.expr) (map operand_view l)) q)
 
 -- what was kept so far is kept by the chain
 pub chain_keeps : {E : Type 0} (r : Result Value E) (u w : machine.Value) (fs gs : machine.Frames) → ((n : ℕ) → n ≤ 7 → machine.reduce n u fs ≡ machine.reduce n w gs) → IfOk r (λ v. value_view v ≡ w) → IfOk r (λ v. (n : ℕ) → n ≤ 7 → machine.reduce n u fs ≡ machine.reduce n (value_view v) gs)

@@ -1,5 +1,5 @@
 -- The numbers of a text have no sign of their own.
-use Rattle.std.proofs.Common.{◌≡◌, ℕ, ◌+◌, ◌-◌, List, [], ◌∷◌, ◌++◌, length, drop, Bool, true, false, Option, Some, None, rules}
+use Rattle.std.proofs.Common.{ℕ, ◌+◌, ◌-◌, List, [], ◌∷◌, ◌++◌, length, drop, Bool, true, false, Option, Some, None, rules}
 use Rattle.std.specs.Prelude.{zero, suc, if◌then◌else◌, nat_eq, ◌&&◌, ◌||◌, not, codes}
 use Rattle.std.specs.Char.{is_ascii_uppercase}
 use Rattle.std.specs.List.{AllByRecursion}
@@ -56,7 +56,7 @@ plain_reserved_word t name rest h =
     let is_do = bytes_eq name (codes "do") && begins (codes ":") rest in
     let is_else = bytes_eq name (codes "else") && begins (codes ":") rest in
     plain_if is_do (cut tokens.DoColon 3) (if is_else then cut tokens.ElseColon 5 else cut t (length name)) (λ c. c.token) tt
-      (plain_if is_else (cut tokens.ElseColon 5) (cut t (length name)) (λ c. c.token) tt h)
+    (plain_if is_else (cut tokens.ElseColon 5) (cut t (length name)) (λ c. c.token) tt h)
 
 plain_by : (t : Option Token) (at : ℕ) (name rest : List ℕ) → PlainOption t → PlainOption (word_by t at name rest).token
 plain_by None at name rest h = plain_function at name (call_mark rest)
@@ -81,7 +81,7 @@ plain_colon bs =
     let full = name ++ atom_mark (drop (length name) bs) in
     let atom = cut (tokens.Atom full) (length full + 1) in
     plain_if (first_is is_ascii_uppercase bs || is_reserved name) (cut tokens.Foreign 1) (if first_is begins_name bs then atom else cut tokens.Colon 1) (λ c. c.token) tt
-      (plain_if (first_is begins_name bs) atom (cut tokens.Colon 1) (λ c. c.token) tt tt)
+    (plain_if (first_is begins_name bs) atom (cut tokens.Colon 1) (λ c. c.token) tt tt)
 
 plain_short_by : (t : Option Token) → PlainOption t → PlainOption (short_by t).token
 plain_short_by None h = tt
@@ -103,12 +103,12 @@ plain_sign last part bs =
     let from_dot = if begins (codes ".") bs then dot else from_colon in
     let from_square = if begins (codes "[") bs then square else from_dot in
     plain_if (begins (codes "(") bs) round from_square (λ c. c.token) (plain_either (ends_name last) tokens.CallOpening tokens.OpeningRound tt tt)
-      (plain_if (begins (codes "[") bs) square from_dot (λ c. c.token) (plain_either (ends_value last) tokens.IndexOpening tokens.OpeningSquare tt tt)
-        (plain_if (begins (codes ".") bs) dot from_colon (λ c. c.token) (plain_either (ends_value last) tokens.Dot tokens.Foreign tt tt)
-          (plain_if (begins (codes ":") bs) (colon (drop 1 bs)) from_brace (λ c. c.token) (plain_colon (drop 1 bs))
-            (plain_if (begins (codes "}") bs) brace by_table (λ c. c.token)
-              (plain_if part (with_piece tokens.PartClosing (drop 1 bs)) (cut (tokens.Closing Curly) 1) (λ c. c.token) tt tt)
-              (plain_long_by (token_where (λ s. begins s bs) long_signs) bs (plain_where (λ s. begins s bs) long_signs plain_long))))))
+    (plain_if (begins (codes "[") bs) square from_dot (λ c. c.token) (plain_either (ends_value last) tokens.IndexOpening tokens.OpeningSquare tt tt)
+    (plain_if (begins (codes ".") bs) dot from_colon (λ c. c.token) (plain_either (ends_value last) tokens.Dot tokens.Foreign tt tt)
+    (plain_if (begins (codes ":") bs) (colon (drop 1 bs)) from_brace (λ c. c.token) (plain_colon (drop 1 bs))
+    (plain_if (begins (codes "}") bs) brace by_table (λ c. c.token)
+    (plain_if part (with_piece tokens.PartClosing (drop 1 bs)) (cut (tokens.Closing Curly) 1) (λ c. c.token) tt tt)
+    (plain_long_by (token_where (λ s. begins s bs) long_signs) bs (plain_where (λ s. begins s bs) long_signs plain_long))))))
 
 plain_token : (k : Beginning) (at : ℕ) (last : Option Token) (part : Bool) (bs : List ℕ) → PlainOption (token_by k at (near_of last) part bs).token
 plain_token white at last part bs = tt
@@ -124,8 +124,8 @@ plain_behind bs =
     let from_slash = if slash then passed else cut tokens.Foreign 1 in
     let from_part = if begins (codes "#{") bs then cut tokens.PartOpening 2 else from_slash in
     plain_if (begins (codes "\"") bs) (cut tokens.QuoteEnd 1) from_part (λ c. c.token) tt
-      (plain_if (begins (codes "#{") bs) (cut tokens.PartOpening 2) from_slash (λ c. c.token) tt
-        (plain_if slash passed (cut tokens.Foreign 1) (λ c. c.token) tt tt))
+    (plain_if (begins (codes "#{") bs) (cut tokens.PartOpening 2) from_slash (λ c. c.token) tt
+    (plain_if slash passed (cut tokens.Foreign 1) (λ c. c.token) tt tt))
 
 plain_first : (inside : Bool) (at : ℕ) (last : Option Token) (part : Bool) (b : ℕ) (bs : List ℕ) → PlainOption (first_token inside at (near_of last) part b bs).token
 plain_first true at last part b bs = plain_behind (b ∷ bs)
@@ -141,8 +141,8 @@ plain_from at last os (suc n) (b ∷ bs) = plain_from (at + 1) last os n bs
 plain_from at last os zero (b ∷ bs) =
     let c = first_token (in_text os) at (near_of last) (in_part os) b bs in
     plain_found at c.token (tokens_from (at + 1) (near_of c.token) (opened_by os (placed at c.token)) (c.size - 1) bs)
-      (plain_first (in_text os) at last (in_part os) b bs)
-      (plain_from (at + 1) c.token (opened_by os (placed at c.token)) (c.size - 1) bs)
+    (plain_first (in_text os) at last (in_part os) b bs)
+    (plain_from (at + 1) c.token (opened_by os (placed at c.token)) (c.size - 1) bs)
 
 -- of all tokens of a text
 pub plain_tokens : (text : List ℕ) → AllByRecursion IsPlain (spelled (placed_tokens text))

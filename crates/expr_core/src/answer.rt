@@ -11,11 +11,11 @@ ghost use Rattle.expr_core.specs.declared.fault.ExprFault.TheVariants as fault;
 ghost use Rattle.ast_core.specs.ExprView.{expr_view};
 
 use crate::fault::{ExprFault, ExprKind};
-use crate::read::{TokenFault, read_tokens};
 use crate::pattern_read::read_pattern_tokens;
-use expr_token::{Opened, Placed};
+use crate::read::{TokenFault, read_tokens};
 use crate::value::Meant;
 use ast_core::{Expr, Pattern};
+use expr_token::{Opened, Placed};
 use std::alloc::Global;
 use text_core::OutOfMemory;
 
