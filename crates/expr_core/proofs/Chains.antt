@@ -1,6 +1,6 @@
 -- Operators that group to the right, gathered from the last one.
-use Rattle.std.proofs.Common.{◌≡◌, ℕ, ◌≤◌, List, [], ◌∷◌, ◌++◌, map, Bool, true, false, Option, Some, None, Box, refl, sym, ap, ◌∙◌, arith}
-use Rattle.std.specs.Prelude.{nat_le, nat_eq, if◌then◌else◌, reverse, Result, Ok, Err, IfOk}
+use Rattle.std.proofs.Common.{◌≡◌, ℕ, ◌≤◌, List, [], ◌∷◌, ◌++◌, map, Bool, true, Option, Some, None, Box, sym, ap, ◌∙◌, arith}
+use Rattle.std.specs.Prelude.{reverse, Result, Ok, Err, IfOk}
 use Rattle.std.proofs.lemmas.Bool.{le-leb, eqb-true}
 use Rattle.std.proofs.lemmas.List.{reverse-append}
 use Rattle.ast_core.specs.Syntax as model
@@ -17,7 +17,7 @@ use Rattle.expr_core.specs.declared.value.Value.{Value}
 use Rattle.expr_core.specs.declared.chain.Gathered.{Gathered}
 use Rattle.expr_core.specs.Grammar.{binds, meant}
 use Rattle.expr_core.specs.Machine as machine
-use Rattle.expr_core.specs.Seen.{value_view, seen, first_of, folded, is_closed_by}
+use Rattle.expr_core.specs.Seen.{value_view, seen, folded, is_closed_by}
 use Rattle.expr_core.specs.Gathers.{groups_right, gathered_view}
 use Rattle.expr_core.proofs.Forms.{sees_right}
 use Rattle.expr_core.proofs.Stacks.{reduce_goes}

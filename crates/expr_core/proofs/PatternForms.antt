@@ -3,9 +3,9 @@ use Rattle.std.proofs.Common.{◌≡◌, ℕ, ℤ, ◌+◌, ◌<◌, arith, Bool
 use Rattle.std.proofs.lemmas.List.{map-append}
 use Rattle.ast_core.specs.declared.pattern.Pattern.{Pattern}
 use Rattle.ast_core.specs.declared.pattern.PatternPair.{PatternPair}
-use Rattle.ast_core.specs.declared.pattern.Pattern.TheOpen.{Pattern-F, PatternPair-F}
+use Rattle.ast_core.specs.declared.pattern.Pattern.TheOpen.{Pattern-F}
 use Rattle.ast_core.specs.declared.pattern.Pattern.TheVariants as form
-use Rattle.ast_core.specs.declared.pattern.Pattern.TheViews.{roll-Pattern, roll-PatternPair}
+use Rattle.ast_core.specs.declared.pattern.Pattern.TheViews.{roll-PatternPair}
 use Rattle.ast_core.specs.declared.pattern.Pattern.TheFolds.{fold-roll-Pattern, fold-roll-PatternPair}
 use Rattle.value_core.specs.Value as value
 use Rattle.ast_core.specs.Syntax as model

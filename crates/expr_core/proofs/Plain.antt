@@ -1,5 +1,5 @@
 -- The numbers of a text have no sign of their own.
-use Rattle.std.proofs.Common.{◌≡◌, ℕ, ◌+◌, ◌-◌, List, [], ◌∷◌, ◌++◌, length, drop, Bool, true, false, Option, Some, None, rules}
+use Rattle.std.proofs.Common.{ℕ, ◌+◌, ◌-◌, List, [], ◌∷◌, ◌++◌, length, drop, Bool, true, false, Option, Some, None, rules}
 use Rattle.std.specs.Prelude.{zero, suc, if◌then◌else◌, nat_eq, ◌&&◌, ◌||◌, not, codes}
 use Rattle.std.specs.Char.{is_ascii_uppercase}
 use Rattle.std.specs.List.{AllByRecursion}

@@ -1,6 +1,6 @@
 -- The answers, as the readers give them.
 use Rattle.std.proofs.Common.{◌≡◌, ℕ, ◌<◌, ◌≤◌, List, [], ◌∷◌, length, get_or, refl, sym, ap, ◌∙◌, subst, arith}
-use Rattle.std.specs.Prelude.{zero, suc, Option, Some, None, Result, Ok, Err, false, true}
+use Rattle.std.specs.Prelude.{zero, suc, Option, Result, Ok, Err}
 use Rattle.std.specs.Prelude.{IfOk, IfErr}
 use Rattle.ast_core.specs.declared.expr.Expr.{Expr}
 use Rattle.ast_core.specs.declared.pattern.Pattern.{Pattern}
