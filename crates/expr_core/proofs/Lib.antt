@@ -16,6 +16,7 @@ pub mod PatternExact
 pub mod Forms
 pub mod Stacks
 pub mod Closes
+pub mod Commas
 pub mod PatternForms
 pub mod Chains
 pub mod Plain

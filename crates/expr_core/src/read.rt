@@ -10,8 +10,8 @@ use crate::frame::Mode;
 use crate::pile::Pile;
 use crate::reduce::reduce;
 use crate::step::step;
-use expr_token::{Placed, Token};
 use crate::value::{Meant, Style, Value};
+use expr_token::{Placed, Token};
 use std::alloc::Global;
 use text_core::OutOfMemory;
 

@@ -8,10 +8,10 @@ use crate::behind::on_have;
 use crate::call::map_from;
 use crate::frame::{Frame, Mode, Opener};
 use crate::pile::Pile;
-use expr_token::{Bracket, Token};
 use crate::value::{Callee, Meant, Style, Value, closed, field_of};
 use crate::want::{begin, begin_list, on_want};
 use ast_core::{Expr, Pair, TextPart};
+use expr_token::{Bracket, Token};
 use std::alloc::Global;
 use text_core::{OutOfMemory, Seq, Text};
 
