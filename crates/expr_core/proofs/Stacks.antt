@@ -42,10 +42,10 @@ level_small (frame.Yes Inside t) = omega arith
 level_small (frame.No Bare t y) = omega arith
 level_small (frame.No Inside t y) = omega arith
 
-pub counts_more : (d : ℕ) (fs gs : List Frame) (f : Frame) → Counts d fs → gs ≡ fs ++ f ∷ [] → Counts (d + level f) gs
-counts_more d fs gs f c e =
+pub counts_more : (d n : ℕ) (fs gs : List Frame) (f : Frame) → Counts d fs → n ≡ level f → gs ≡ fs ++ f ∷ [] → Counts (d + n) gs
+counts_more d n fs gs f c same e =
     let a : nest (seen (stack gs)) ≡ nest (seen (stack fs)) + level f = ap (λ g. nest (seen (stack g))) e ∙ (ap (λ g. nest (seen g)) (stack_push fs f) ∙ nest_level f (seen (stack fs))) in
-    let n : length gs ≡ length fs + 1 = ap length e ∙ length-append fs (f ∷ []) in
+    let more : length gs ≡ length fs + 1 = ap length e ∙ length-append fs (f ∷ []) in
     let s : level f ≤ 2 = level_small f in
     (omega arith, omega arith)
 
@@ -57,16 +57,11 @@ stack_length : (fs : List Frame) → length (stack fs) ≡ length fs
 stack_length [] = refl
 stack_length (f ∷ fs) = length-append (stack fs) (f ∷ []) ∙ (ap (λ n. n + 1) (stack_length fs) ∙ omega arith)
 
-pub counts_less : (d : ℕ) (fs gs : List Frame) (f : Frame) → Counts d gs → gs ≡ fs ++ f ∷ [] → Counts (d - level f) fs
-counts_less d fs gs f c e =
+pub counts_less : (d n : ℕ) (fs gs : List Frame) (f : Frame) → Counts d gs → n ≡ level f → gs ≡ fs ++ f ∷ [] → Counts (d - n) fs
+counts_less d n fs gs f c same e =
     let a : nest (seen (stack gs)) ≡ nest (seen (stack fs)) + level f = ap (λ g. nest (seen (stack g))) e ∙ (ap (λ g. nest (seen g)) (stack_push fs f) ∙ nest_level f (seen (stack fs))) in
     let b : nest (seen (stack fs)) ≤ length (stack fs) + length (stack fs) = nest_length (stack fs) in
     (omega arith, omega (arith, stack_length fs))
-
-pub level_within : (d : ℕ) (fs gs : List Frame) (f : Frame) → Counts d gs → gs ≡ fs ++ f ∷ [] → level f ≤ d
-level_within d fs gs f c e =
-    let a : nest (seen (stack gs)) ≡ nest (seen (stack fs)) + level f = ap (λ g. nest (seen (stack g))) e ∙ (ap (λ g. nest (seen g)) (stack_push fs f) ∙ nest_level f (seen (stack fs))) in
-    omega arith
 
 pub reduce_stays : (n : ℕ) (v : machine.Value) (fs : List Frame) → is_closed_by n (first_of fs) ≡ false → reduce n v (seen fs) ≡ (v, seen fs)
 reduce_stays n v [] e = refl
@@ -103,16 +98,16 @@ last_top : (fs : List Frame) (f g : Frame) → first_of ((fs ++ f ∷ []) ++ g �
 last_top [] f g = refl
 last_top (h ∷ fs) f g = refl
 
-pub top_last : (fs : List Frame) (n : ℕ) → length fs ≡ n + 1 → slice_get fs n ≡ first_of (stack fs)
-top_last [] n e = absurd (omega arith)
-top_last (f ∷ []) zero e = refl
-top_last (f ∷ []) (suc n) e = absurd (omega arith)
-top_last (f ∷ g ∷ fs) zero e = absurd (omega arith)
-top_last (f ∷ g ∷ fs) (suc n) e = top_last (g ∷ fs) n (omega arith) ∙ sym (last_top (stack fs) g f)
+top_at : (fs : List Frame) (n : ℕ) → length fs ≡ n + 1 → slice_get fs n ≡ first_of (stack fs)
+top_at [] n e = absurd (omega arith)
+top_at (f ∷ []) zero e = refl
+top_at (f ∷ []) (suc n) e = absurd (omega arith)
+top_at (f ∷ g ∷ fs) zero e = absurd (omega arith)
+top_at (f ∷ g ∷ fs) (suc n) e = top_at (g ∷ fs) n (omega arith) ∙ sym (last_top (stack fs) g f)
 
-pub top_none : (fs : List Frame) → fs ≡ [] → None ≡ first_of (stack fs)
-top_none [] e = refl
-top_none (f ∷ fs) e = cc
+pub top_last : (fs : List Frame) → slice_get fs (length fs - 1) ≡ first_of (stack fs)
+top_last [] = refl
+top_last (f ∷ fs) = top_at (f ∷ fs) (length (f ∷ fs) - 1) (omega arith)
 
 pub need_first : (fs : List Frame) → machine.need (seen fs) ≡ machine.need_under (option_map frame_view (first_of fs))
 need_first [] = refl

@@ -10,3 +10,4 @@ pub mod Seen
 pub mod Gives
 pub mod SeenPattern
 pub mod Gathers
+pub mod Lines

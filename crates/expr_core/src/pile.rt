@@ -106,14 +106,10 @@ impl Pile {
     }
 
     /// The innermost.
-    #[tactic(auto, using(crate::proofs::Stacks::top_last, crate::proofs::Stacks::top_none))]
+    #[tactic(auto, using(crate::proofs::Stacks::top_last))]
     pub(crate) fn top(&self) -> Option<&Frame>
         ensures { option_copied result ≡ first_of self.now }
     {
-        let frames = self.frames.as_slice();
-        if frames.is_empty() {
-            return None;
-        }
-        frames.get(frames.len() - 1)
+        self.frames.as_slice().last()
     }
 }

@@ -7,6 +7,7 @@ ghost use Rattle.expr_core.specs.Functions.{call_with};
 ghost use Rattle.expr_core.specs.Grammar.{binds, is_denial, style_holds};
 ghost use Rattle.expr_core.specs.Machine as machine;
 ghost use Rattle.expr_core.specs.Seen.{meant_view, value_view, style_view};
+ghost use Rattle.expr_core.specs.Lines.{are_of_line};
 
 use crate::functions::{earlier, function_of, known};
 use ast_core::{BinaryOp, Expr, Operand, PathStep, PipeCall, UnaryOp};
@@ -99,22 +100,45 @@ pub(crate) fn named(alloc: Global, at: usize, name: &Text) -> Result<Value, OutO
     })
 }
 
-// An operator with its operands: a chain goes on.
+// Whether the operators of a chain are of this line of precedence.
+fn are_of_line(rest: &[Operand], line: u8) -> bool
+    ensures { result ≡ are_of_line rest.now line }
+{
+    match rest.first() {
+        Some(operand) => binds(operand.op) == line,
+        None => false,
+    }
+}
+
+// An operator with its operands, as a chain of its own.
+fn new_chain(
+    alloc: Global,
+    op: BinaryOp,
+    left: Expr,
+    right: Expr,
+) -> Result<Expr, OutOfMemory>
+    ensures { IfOk result (λ e. expr_view e ≡ model.binary op (expr_view left) (expr_view right)) }
+{
+    let mut rest = Seq::new(alloc);
+    rest.push(Operand { op, value: right })?;
+    let first = Box::new(alloc, left)?;
+    Ok(Expr::LeftChain { first, rest })
+}
+
+// An operator with its operands: a chain of its line of precedence goes on.
 fn chained(alloc: Global, op: BinaryOp, left: Expr, right: Expr) -> Result<Expr, OutOfMemory>
     ensures { IfOk result (λ e. expr_view e ≡ model.binary op (expr_view left) (expr_view right)) }
 {
     match left {
         Expr::LeftChain { first, rest } => {
+            if !are_of_line(rest.as_slice(), binds(op)) {
+                return new_chain(alloc, op, Expr::LeftChain { first, rest }, right);
+            }
             let mut rest = rest;
             rest.push(Operand { op, value: right })?;
             Ok(Expr::LeftChain { first, rest })
         }
-        other => {
-            let mut rest = Seq::new(alloc);
-            rest.push(Operand { op, value: right })?;
-            let first = Box::new(alloc, other)?;
-            Ok(Expr::LeftChain { first, rest })
-        }
+        other => new_chain(alloc, op, other, right),
     }
 }
 
