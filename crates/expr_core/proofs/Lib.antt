@@ -17,6 +17,7 @@ pub mod Forms
 pub mod Stacks
 pub mod Closes
 pub mod Commas
+pub mod Turns
 pub mod PatternForms
 pub mod Chains
 pub mod Plain
