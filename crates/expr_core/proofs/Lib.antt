@@ -16,6 +16,8 @@ pub mod PatternExact
 pub mod Forms
 pub mod Stacks
 pub mod Closes
+pub mod Commas
+pub mod Turns
 pub mod PatternForms
 pub mod Chains
 pub mod Plain

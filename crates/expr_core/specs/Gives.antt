@@ -20,7 +20,9 @@ use Rattle.expr_core.specs.declared.read.TokenFault.{TokenFault}
 use Rattle.expr_core.specs.declared.read.TokenFault.TheVariants.{Stray, BadNumber, TooDeep, Ended, OutOfMemory}
 use Rattle.expr_core.specs.Grammar as grammar
 use Rattle.expr_core.specs.Outcome.{Outcome, done, stray, bad_number, too_deep, ended}
-use Rattle.expr_core.specs.Seen.{meant_view}
+use Rattle.expr_core.specs.declared.frame.Mode.{Mode}
+use Rattle.expr_core.specs.Machine as machine
+use Rattle.expr_core.specs.Seen.{meant_view, state_of}
 
 abbrev pub spelled : List Placed → List Token
 spelled ps = map (λ p. p.token) ps
@@ -37,6 +39,11 @@ Faults OutOfMemory o = Unit {0}
 abbrev pub Gives : Result Meant TokenFault → Outcome grammar.Meant → Type 0
 Gives (Ok m) o = o ≡ done (meant_view m)
 Gives (Err f) o = Faults f o
+
+-- where a token leads, whose tokens have this outcome, and those behind it that of the state that it leads to
+abbrev pub Leads : Result Mode TokenFault → machine.Frames → (machine.State → Outcome grammar.Meant) → Outcome grammar.Meant → Type 0
+Leads (Ok m) fs go o = o ≡ go (state_of m fs)
+Leads (Err f) fs go o = Faults f o
 
 -- what no token that goes on like this is
 abbrev pub fault_of : Token → ℕ → TokenFault

@@ -173,3 +173,31 @@ is_test (frame.Valued ps u k) = false
 is_test frame.InnerTest = false
 is_test (frame.Yes s t) = false
 is_test (frame.No s t y) = false
+
+-- what this is, where it waits for the test of an `if`
+abbrev pub test_style : Frame → Option Style
+test_style frame.Test = Some Bare
+test_style frame.InnerTest = Some Inside
+test_style (frame.Operand o l) = None
+test_style (frame.Ahead o) = None
+test_style frame.Paren = None
+test_style (frame.Indexed v) = None
+test_style (frame.Items o es u) = None
+test_style (frame.Putting ps u) = None
+test_style (frame.Valued ps u k) = None
+test_style (frame.Yes s t) = None
+test_style (frame.No s t y) = None
+
+-- where a comma leads behind a part of an `if`
+abbrev pub choice_goes_on : machine.Frame → machine.Value → machine.Frames → Option machine.State
+choice_goes_on machine.test v fs = Some (machine.want_do grammar.bare v.meant fs)
+choice_goes_on machine.inner_test v fs = Some (machine.want_do grammar.inside v.meant fs)
+choice_goes_on (machine.yes_of s t) v fs = Some (machine.want_else s t v.meant fs)
+choice_goes_on (machine.operand o l) v fs = None
+choice_goes_on (machine.ahead o) v fs = None
+choice_goes_on machine.paren v fs = None
+choice_goes_on (machine.indexed w) v fs = None
+choice_goes_on (machine.items o es u) v fs = None
+choice_goes_on (machine.putting ps u) v fs = None
+choice_goes_on (machine.valued ps u k) v fs = None
+choice_goes_on (machine.no_of s t y) v fs = None

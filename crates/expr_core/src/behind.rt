@@ -4,7 +4,7 @@ ghost use Rattle.ast_core.specs.ExprView.{expr_view};
 ghost use Rattle.ast_core.specs.NamesIn.{pair_view};
 ghost use Rattle.expr_core.specs.Grammar.{binds as binding_of, left_of as left_bound, may_deny};
 ghost use Rattle.expr_core.specs.Machine as machine;
-ghost use Rattle.expr_core.specs.Seen.{is_test, value_view, callee_view, opener_view, frame_view, seen, state_of, led};
+ghost use Rattle.expr_core.specs.Seen.{is_test, test_style, choice_goes_on, meant_view, style_view, value_view, callee_view, opener_view, frame_view, seen, state_of, led};
 ghost use Rattle.expr_token.specs.declared.token.Token.TheVariants as tokens;
 
 use crate::call::{with_item, with_pair};
@@ -15,7 +15,7 @@ use crate::pile::Pile;
 use crate::reduce::{left_of, need, reduce};
 use crate::value::{Callee, Style, Value, binds};
 use ast_core::{BinaryOp, Expr, Pair};
-use expr_token::Token;
+use expr_token::{Bracket, Token};
 use std::alloc::Global;
 use text_core::{OutOfMemory, Seq, Text};
 
@@ -135,22 +135,48 @@ fn paren_ends(value: Value, frames: &mut Pile) -> Option<Mode>
     }
 }
 
+// What this is, where it waits for the test of an `if`.
+fn test_style(frame: &Frame) -> Option<Style>
+    ensures { result ≡ test_style frame.now }
+{
+    match frame {
+        Frame::Test => Some(Style::Bare),
+        Frame::InnerTest => Some(Style::Inside),
+        _ => None,
+    }
+}
+
+// A comma behind the test of an `if`.
+fn test_goes_on(style: Option<Style>, value: Value) -> Option<Mode>
+    ensures { (fs : machine.Frames) → led result fs ≡ option_map (λ s. machine.want_do (style_view s) (meant_view value.meant) fs) style }
+{
+    match style {
+        Some(style) => Some(Mode::WantDo(style, value.meant)),
+        None => None,
+    }
+}
+
+// A comma behind a part of an `if`.
+#[tactic(auto, using(crate::proofs::Commas::in_test))]
+fn choice_goes_on(frame: Frame, value: Value) -> Option<Mode>
+    ensures { (fs : machine.Frames) → choice_goes_on (frame_view frame) (value_view value) fs ≡ led result fs }
+{
+    match frame {
+        Frame::Yes(style, test) => Some(Mode::WantElse(style, test, value.meant)),
+        other => test_goes_on(test_style(&other), value),
+    }
+}
+
 // A comma behind a value in this.
+#[tactic(auto, using(crate::proofs::Commas::in_choice))]
 fn comma_in(frame: Frame, value: Value, frames: &mut Pile) -> Result<Option<Mode>, OutOfMemory>
     ensures { IfOk result (λ mode. machine.put_comma (value_view value) (frame_view frame ∷ seen frames.old) ≡ led mode (seen frames.new)) }
 {
     match frame {
         Frame::Items(opener, items, unknown) => next_item(opener, items, unknown, value, frames),
         Frame::Valued(pairs, unknown, key) => next_entry(pairs, unknown, key, value),
-        Frame::Test => Ok(Some(Mode::WantDo(Style::Bare, value.meant))),
-        Frame::InnerTest => Ok(Some(Mode::WantDo(Style::Inside, value.meant))),
-        Frame::Yes(style, test) => Ok(Some(Mode::WantElse(style, test, value.meant))),
         Frame::Paren => Ok(paren_ends(value, frames)),
-        Frame::Indexed(_left) => Ok(None),
-        Frame::Putting(_parts, _unknown) => Ok(None),
-        Frame::No(_style, _test, _yes) => Ok(None),
-        Frame::Operand(_op, _left) => Ok(None),
-        Frame::Ahead(_op) => Ok(None),
+        other => Ok(choice_goes_on(other, value)),
     }
 }
 
@@ -201,6 +227,57 @@ fn put_dot(value: Value) -> Option<Mode>
     }
 }
 
+// An operator, with what stands before it put together.
+fn on_operator(
+    alloc: Global,
+    op: BinaryOp,
+    value: Value,
+    frames: &mut Pile,
+) -> Result<Option<Mode>, OutOfMemory>
+    ensures { IfOk result (λ mode. machine.on_have (tokens.Operator op) (value_view value) (seen frames.old) ≡ led mode (seen frames.new)) }
+{
+    let value = reduce(alloc, left_of(binds(op)), value, frames)?;
+    put_operator(op, value, frames)
+}
+
+fn on_pipe(alloc: Global, value: Value, frames: &mut Pile) -> Result<Option<Mode>, OutOfMemory>
+    ensures { IfOk result (λ mode. machine.on_have tokens.Pipe (value_view value) (seen frames.old) ≡ led mode (seen frames.new)) }
+{
+    let value = reduce(alloc, 5, value, frames)?;
+    Ok(put_pipe(value, frames))
+}
+
+fn on_closing(
+    alloc: Global,
+    bracket: Bracket,
+    value: Value,
+    frames: &mut Pile,
+) -> Result<Option<Mode>, OutOfMemory>
+    ensures { IfOk result (λ mode. machine.on_have (tokens.Closing bracket) (value_view value) (seen frames.old) ≡ led mode (seen frames.new)) }
+{
+    let value = reduce(alloc, 0, value, frames)?;
+    put_closing(alloc, bracket, value, frames)
+}
+
+fn on_part_closing(
+    alloc: Global,
+    text: &Text,
+    value: Value,
+    frames: &mut Pile,
+) -> Result<Option<Mode>, OutOfMemory>
+    ensures { IfOk result (λ mode. machine.on_have (tokens.PartClosing text.now) (value_view value) (seen frames.old) ≡ led mode (seen frames.new)) }
+{
+    let value = reduce(alloc, 0, value, frames)?;
+    put_part(alloc, text, value, frames)
+}
+
+fn on_comma(alloc: Global, value: Value, frames: &mut Pile) -> Result<Option<Mode>, OutOfMemory>
+    ensures { IfOk result (λ mode. machine.on_have tokens.Comma (value_view value) (seen frames.old) ≡ led mode (seen frames.new)) }
+{
+    let value = reduce(alloc, 1, value, frames)?;
+    put_comma(value, frames)
+}
+
 /// A token behind an operand.
 pub(crate) fn on_have(
     alloc: Global,
@@ -211,29 +288,14 @@ pub(crate) fn on_have(
     ensures { IfOk result (λ mode. machine.on_have token.now (value_view value) (seen frames.old) ≡ led mode (seen frames.new)) }
 {
     match token {
-        Token::Operator(op) => {
-            let value = reduce(alloc, left_of(binds(*op)), value, frames)?;
-            put_operator(*op, value, frames)
-        }
-        Token::Pipe => {
-            let value = reduce(alloc, 5, value, frames)?;
-            Ok(put_pipe(value, frames))
-        }
+        Token::Operator(op) => on_operator(alloc, *op, value, frames),
+        Token::Pipe => on_pipe(alloc, value, frames),
         Token::Dot => Ok(put_dot(value)),
         Token::IndexOpening => open_index(value, frames),
         Token::CallOpening => open_call(alloc, value.callee, frames),
-        Token::Closing(bracket) => {
-            let value = reduce(alloc, 0, value, frames)?;
-            put_closing(alloc, *bracket, value, frames)
-        }
-        Token::PartClosing(text) => {
-            let value = reduce(alloc, 0, value, frames)?;
-            put_part(alloc, text, value, frames)
-        }
-        Token::Comma => {
-            let value = reduce(alloc, 1, value, frames)?;
-            put_comma(value, frames)
-        }
+        Token::Closing(bracket) => on_closing(alloc, *bracket, value, frames),
+        Token::PartClosing(text) => on_part_closing(alloc, text, value, frames),
+        Token::Comma => on_comma(alloc, value, frames),
         _ => Ok(None),
     }
 }

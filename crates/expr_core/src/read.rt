@@ -1,10 +1,10 @@
 //! Expressions, read from their tokens.
-ghost use Rattle.std.specs.Prelude.{◌≡◌, ℕ, ◌+◌, ◌≤◌, IfOk, nat_le, option_map};
+ghost use Rattle.std.specs.Prelude.{◌≡◌, ℕ, ◌+◌, ◌≤◌, IfOk, nat_le, option_map, if◌then◌else◌};
 ghost use Rattle.expr_core.specs.Grammar as grammar;
 ghost use Rattle.expr_core.specs.Machine as machine;
-ghost use Rattle.expr_core.specs.Outcome.{outcome_of};
+ghost use Rattle.expr_core.specs.Outcome.{Outcome, too_deep, at_end, on_step, outcome_of};
 ghost use Rattle.expr_core.specs.Seen.{value_view, meant_view, style_view, seen, state_of};
-ghost use Rattle.expr_core.specs.Gives.{Gives, fault_of, spelled};
+ghost use Rattle.expr_core.specs.Gives.{Gives, Leads, fault_of, spelled};
 
 use crate::frame::Mode;
 use crate::pile::Pile;
@@ -93,12 +93,50 @@ fn ended(alloc: Global, value: Value, frames: Pile) -> Result<Option<Meant>, Out
 }
 
 // What was read, where the text may end here.
+#[tactic(auto, using(crate::proofs::Turns::unfinished))]
 fn finished(alloc: Global, mode: Mode, frames: Pile) -> Result<Option<Meant>, OutOfMemory>
     ensures { IfOk result (λ meant. machine.meant_by (machine.finished (state_of mode (seen frames))) ≡ option_map meant_view meant) }
 {
     match mode {
         Mode::Have(value) => ended(alloc, value, frames),
-        _ => Ok(None),
+        _other => Ok(None),
+    }
+}
+
+// What was read, or that more was needed.
+fn last_meant(alloc: Global, mode: Mode, frames: Pile) -> Result<Meant, TokenFault>
+    ensures { Gives result (at_end (machine.meant_by (machine.finished (state_of mode (seen frames))))) }
+{
+    match finished(alloc, mode, frames)? {
+        Some(meant) => Ok(meant),
+        None => Err(TokenFault::Ended),
+    }
+}
+
+// What comes next, unless the n-th token stands too deep.
+fn if_shallow(mode: Mode, frames: &Pile, at: usize) -> Result<Mode, TokenFault>
+    ensures { (go : machine.State → Outcome grammar.Meant) → Leads result (seen frames.now) go (if nat_le (machine.depth (state_of mode (seen frames.now))) 64 then go (state_of mode (seen frames.now)) else too_deep at) }
+{
+    if is_shallow(&mode, frames) {
+        Ok(mode)
+    } else {
+        Err(TokenFault::TooDeep(at))
+    }
+}
+
+// The n-th token.
+fn turn(
+    alloc: Global,
+    token: &Token,
+    at: usize,
+    mode: Mode,
+    frames: &mut Pile,
+) -> Result<Mode, TokenFault>
+    ensures { (go : machine.State → Outcome grammar.Meant) → Leads result (seen frames.new) go (on_step machine.depth go token.now at (machine.step (state_of mode (seen frames.old)) token.now)) }
+{
+    match step(alloc, token, mode, frames)? {
+        Some(next) => if_shallow(next, frames, at),
+        None => Err(fault_at(token, at)),
     }
 }
 
@@ -110,19 +148,8 @@ pub(crate) fn read_tokens(alloc: Global, tokens: &[Placed]) -> Result<Meant, Tok
     let mut mode = Mode::Want;
     let mut at = 0;
     'each: while at < tokens.len() {
-        match step(alloc, &tokens[at].token, mode, &mut frames)? {
-            None => return Err(fault_at(&tokens[at].token, at)),
-            Some(next) => {
-                if !is_shallow(&next, &frames) {
-                    return Err(TokenFault::TooDeep(at));
-                }
-                mode = next;
-            }
-        }
+        mode = turn(alloc, &tokens[at].token, at, mode, &mut frames)?;
         at += 1;
     }
-    match finished(alloc, mode, frames)? {
-        Some(meant) => Ok(meant),
-        None => Err(TokenFault::Ended),
-    }
+    last_meant(alloc, mode, frames)
 }
