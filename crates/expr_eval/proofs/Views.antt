@@ -29,6 +29,25 @@ pub lookup_seen : (k : List ℕ) (es : List (KeyValue Value)) → option_map vie
 lookup_seen k [] = refl
 lookup_seen k (e ∷ es) = choose (bytes_eq k e.key) e.value _ _ (lookup_seen k es)
 
+abbrev pub first_of : {X : Type 0} → Option X → Option X → Option X
+first_of None o = o
+first_of (Some x) o = Some x
+
+stands : {X : Type 0} (b : Bool) (x : X) (o p q : Option X) → o ≡ first_of p q → (if b then Some x else o) ≡ first_of (if b then Some x else p) q
+stands true x o p q h = refl
+stands false x o p q h = h
+
+lookup_over : (k : List ℕ) (gs es : model.Assigns) → scope.lookup k (scope.over gs es) ≡ first_of (scope.lookup k gs) (scope.lookup k es)
+lookup_over k model.no_assigns es = refl
+lookup_over k (model.assign l v gs) es = stands (bytes_eq k l) v (scope.lookup k (scope.over gs es)) (scope.lookup k gs) (scope.lookup k es) (lookup_over k gs es)
+
+-- given entries stand over others
+pub over_seen : (k : List ℕ) (gs es : List (KeyValue Value)) (o : Option Value) → o ≡ lookup k gs
+    → scope.lookup k (scope.over (assigns_view gs) (assigns_view es)) ≡ first_of (option_map view o) (scope.lookup k (assigns_view es))
+over_seen k gs es o h =
+    lookup_over k (assigns_view gs) (assigns_view es)
+    ∙ ap (λ m. first_of m (scope.lookup k (assigns_view es))) (sym (lookup_seen k gs) ∙ ap (option_map view) (sym h))
+
 there : (o : Option Value) → is_there (option_map view o) ≡ is_some o
 there None = refl
 there (Some v) = refl

@@ -5,6 +5,7 @@ ghost use Rattle.value_core.specs.View.{view, assigns_view};
 ghost use Rattle.doc_model.specs.Environment.{lookup as lookup_in};
 ghost use Rattle.doc_model.specs.Evaluation.{or_raise, on_res, or_value, key_of as key_in, field_of, index_of, entry_at, is_some as is_there};
 ghost use Rattle.expr_eval.specs.Gives.{Gives, truth_as_is};
+ghost use Rattle.expr_eval.specs.Scope.{seen};
 
 use crate::EvalFault;
 use crate::judge::key_of;
@@ -12,13 +13,17 @@ use std::alloc::Global;
 use text_core::OutOfMemory;
 use value_core::{Assigns, Raise, Value, copy};
 
-/// The value at a key.
-pub(crate) fn find(
-    alloc: Global,
-    entries: &Assigns,
-    key: &str,
-    absent: Raise,
-) -> Result<Value, EvalFault>
+/// A copy of a value, where there is one.
+pub(crate) fn found(alloc: Global, value: Option<&Value>, absent: Raise) -> Result<Value, EvalFault>
+    ensures { Gives view result (or_raise (seen value.entry) absent) }
+{
+    match value {
+        Some(value) => Ok(copy(alloc, value)?),
+        None => Err(EvalFault::Raised(absent)),
+    }
+}
+
+fn find(alloc: Global, entries: &Assigns, key: &str, absent: Raise) -> Result<Value, EvalFault>
     ensures { Gives view result (or_raise (lookup_in key.now (assigns_view entries.now)) absent) }
 {
     match entries.get(key) {
