@@ -17,3 +17,4 @@ mod text;
 
 pub use evaluate::{eval, eval_over};
 pub use fault::EvalFault;
+pub use judge::is_true;
