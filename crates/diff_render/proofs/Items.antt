@@ -1,5 +1,5 @@
 -- What places meet, one after the other.
-use Rattle.std.proofs.Common.{◌≡◌, ℕ, List, [], ◌∷◌, ◌++◌, map, None, Ok, Err, false, refl, sym, ap, ◌∙◌}
+use Rattle.std.proofs.Common.{◌≡◌, List, [], ◌∷◌, ◌++◌, map, Ok, Err, false, refl, sym, ap, ◌∙◌}
 use Rattle.value_core.specs.Value.{Assigns, no_assigns}
 use Rattle.value_core.specs.declared.raise.Raise.{Raise}
 use Rattle.ast_core.specs.Syntax.{Expr, put, no_nodes, any}

@@ -1,5 +1,5 @@
 -- One place more, from the back.
-use Rattle.std.proofs.Common.{◌≡◌, ℕ, zero, suc, List, [], ◌∷◌, ◌++◌, map, length, Option, Some, None, Ok, Err, Bool, true, false, not, ◌&&◌, refl, sym, ap, ◌∙◌, append_assoc, take, get_or, ◌-◌, ◌≤◌, arith, length-take, if◌then◌else◌, true≢false}
+use Rattle.std.proofs.Common.{◌≡◌, ℕ, zero, suc, List, [], ◌∷◌, ◌++◌, length, Option, Some, None, Ok, Err, Bool, true, false, not, refl, sym, ap, ◌∙◌, append_assoc, take, get_or, ◌-◌, ◌≤◌, arith, length-take, if◌then◌else◌, true≢false}
 use Rattle.std.proofs.lemmas.List.{map-append}
 use Rattle.std.specs.Fmt.{decimal}
 use Rattle.std.specs.Prelude.{codes}

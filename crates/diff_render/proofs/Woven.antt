@@ -1,5 +1,5 @@
 -- The full rendering of a template, place by place.
-use Rattle.std.proofs.Common.{◌≡◌, ℕ, suc, List, [], ◌∷◌, ◌++◌, Ok, Err, refl, sym, ap, ◌∙◌, append_assoc}
+use Rattle.std.proofs.Common.{◌≡◌, ℕ, List, [], ◌∷◌, ◌++◌, Ok, Err, refl, sym, ap, ◌∙◌, append_assoc}
 use Rattle.value_core.specs.Value.{Assigns, no_assigns}
 use Rattle.value_core.specs.declared.raise.Raise.{Raise}
 use Rattle.ast_core.specs.Syntax.{Expr, put}
@@ -9,7 +9,7 @@ use Rattle.slot_compile.specs.declared.compiled.Compiled.{Compiled}
 use Rattle.slot_compile.specs.declared.compiled.Interpolation.{Interpolation}
 use Rattle.slot_compile.specs.Template.{syntax_from}
 use Rattle.doc_model.specs.Environment.{Env}
-use Rattle.doc_model.specs.Evaluation.{Res, then_do, both, on_res, eval_expr, printed}
+use Rattle.doc_model.specs.Evaluation.{Res, then_do, both, on_res, printed}
 use Rattle.doc_model.specs.Scopes.{Site, Deeper}
 use Rattle.doc_model.specs.FullRendering.{full_render, full_nodes, full_place}
 use Rattle.doc_model.proofs.Names.{eval_agrees}

@@ -4,6 +4,7 @@ use Rattle.std.specs.List.{list_all, slice_split, onto_first, join_with_byte}
 use Rattle.std.proofs.lemmas.Bool.{and_from, and_parts, true≢false, false≢true}
 use Rattle.std.proofs.lemmas.List.Folds.{list_all-append}
 use Rattle.std.proofs.lemmas.List.Splits.{join_with_byte-slice_split}
+use Rattle.ast_core.specs.Syntax.{name, at}
 use Rattle.template_reader.specs.Pieces.{Piece, Pieces, lacks, SpellsFrom, SpellsPieces, after_front, with_text, SpellsTemplate}
 use Rattle.template_reader.specs.Reading.{beginning, with_value, with_holes, with_parts, with_pieces, behind, before_end, content_of, paragraph_of, template_of, TemplatesAreSpelled}
 use Rattle.template_reader.proofs.Cuts.{behind_some, behind_is}
@@ -183,3 +184,19 @@ complete text p (inr (q, content, is, spelled, all)) =
 
 pub templates_are_spelled : TemplatesAreSpelled
 templates_are_spelled text p = (sound text p, complete text p)
+
+-- examples
+paragraph_read : template_of (codes "<p>a {@b}</p>") ≡ Some (record { pieces = record { before = codes "<p>a "; value = name (at (codes "b")) } ∷ []; last = codes "</p>" })
+paragraph_read = refl
+
+text_read : template_of (codes "a } b") ≡ Some (record { pieces = []; last = codes "a } b" })
+text_read = refl
+
+streams_refused : template_of (codes "{@streams}") ≡ None
+streams_refused = refl
+
+open_tag_refused : template_of (codes "<p>{@a}") ≡ None
+open_tag_refused = refl
+
+open_brace_refused : template_of (codes "a {@b") ≡ None
+open_brace_refused = refl

@@ -1,4 +1,4 @@
-use Rattle.std.proofs.Common.{Err, ap, ◌∙◌, subst, rules}
+use Rattle.std.proofs.Common.{Err, subst, rules}
 use Rattle.value_core.specs.View.{assigns_view}
 use Rattle.diff_render.specs.Places.{values_in, GivesPlaces, HasMembers, whole_members}
 use Rattle.diff_render.specs.Renders.{whole_json}
