@@ -1,8 +1,9 @@
 -- What a bracket ends, and what it does not.
-use Rattle.std.proofs.Common.{◌≡◌, ℕ, List, [], ◌∷◌, ◌++◌, Bool, true, false, Option, Some, None, refl}
+use Rattle.std.proofs.Common.{◌≡◌, ℕ, List, [], ◌∷◌, ◌++◌, true, false, Option, Some, None, refl}
 use Rattle.std.specs.Prelude.{nat_le, if◌then◌else◌}
 use Rattle.ast_core.specs.declared.operators.UnaryOp.{UnaryOp}
 use Rattle.ast_core.specs.declared.operators.BinaryOp.{BinaryOp}
+use Rattle.ast_core.specs.declared.expr.TextPart.{TextPart}
 use Rattle.ast_core.specs.Syntax.{Expr}
 use Rattle.ast_core.specs.ExprView.{Part}
 use Rattle.expr_token.specs.declared.token.Bracket.{Bracket}
@@ -202,6 +203,20 @@ empty_no Square s t y fs = refl
 empty_no Curly s t y fs = refl
 
 pub ruleset empties = (empty_operand, empty_ahead, empty_paren, empty_indexed, empty_putting, empty_valued, empty_test, empty_inner_test, empty_yes, empty_no)
+
+-- a part of a text ends no other frame
+pub part_stays : (s : List ℕ) (v : machine.Value) (f : Frame) → ((ps : List TextPart) (u : Option ℕ) → f ≡ frame.Putting ps u → ⊥) → (fs : machine.Frames) → machine.put_part s v (frame_view f ∷ fs) ≡ None
+part_stays s v (frame.Putting ps u) h fs = absurd (h ps u refl)
+part_stays s v (frame.Operand o l) h fs = refl
+part_stays s v (frame.Ahead o) h fs = refl
+part_stays s v frame.Paren h fs = refl
+part_stays s v (frame.Indexed w) h fs = refl
+part_stays s v (frame.Items o es u) h fs = refl
+part_stays s v (frame.Valued ps u k) h fs = refl
+part_stays s v frame.Test h fs = refl
+part_stays s v frame.InnerTest h fs = refl
+part_stays s v (frame.Yes o t) h fs = refl
+part_stays s v (frame.No o t y) h fs = refl
 
 pub test_goes : (v : machine.Value) (f : Frame) (fs : machine.Frames) → is_test f ≡ true → machine.put_comma v (machine.paren ∷ frame_view f ∷ fs) ≡ (if nat_le 1 v.holds then Some (machine.want_do grammar.inside v.meant fs) else None)
 test_goes v frame.Test fs e = refl

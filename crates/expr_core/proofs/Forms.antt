@@ -1,5 +1,5 @@
 -- What the forms of expressions stand for.
-use Rattle.std.proofs.Common.{◌≡◌, ◌+◌, arith, ℕ, ℤ, Bool, List, [], ◌∷◌, ◌++◌, map, length, Some, None, Box, refl, sym, ap, ◌∙◌}
+use Rattle.std.proofs.Common.{◌≡◌, ◌+◌, arith, ℕ, ℤ, Bool, List, [], ◌∷◌, ◌++◌, map, length, Option, Some, None, Box, refl, sym, ap, ◌∙◌}
 use Rattle.std.proofs.lemmas.List.{map-append, length-map}
 use Rattle.std.specs.declared.alloc.Global.{Global}
 use Rattle.ast_core.specs.declared.operators.UnaryOp.{UnaryOp}
@@ -18,11 +18,11 @@ use Rattle.ast_core.specs.declared.expr.TextPart.TheVariants as pieces
 use Rattle.ast_core.specs.declared.expr.Expr.TheViews.{roll-Expr, roll-PathStep, roll-TextPart, roll-Operand, roll-Pair, roll-PipeCall}
 use Rattle.ast_core.specs.declared.expr.Expr.TheFolds.{map-Expr, map-PathStep, map-TextPart, fold-roll-Expr, fold-roll-PathStep, fold-roll-TextPart, fold-roll-Operand, fold-roll-Pair, fold-roll-PipeCall}
 use Rattle.ast_core.specs.Syntax as model
-use Rattle.ast_core.specs.Syntax.{Exprs, expr, no_exprs}
+use Rattle.ast_core.specs.Syntax.{Exprs, expr}
 use Rattle.ast_core.specs.ExprView.{Part, plain_part, expr_part, Step, field_step, index_step, exprs_of, pairs_of, parts_of, path_of, left_chain, right_chain, pipes_of, expr_view, expr_step, path_step, part_step, operand_step, pair_step, call_step}
 use Rattle.ast_core.specs.NamesIn.{part_view, pair_view, step_view, operand_view, call_view}
 use Rattle.expr_core.specs.Grammar.{plain_parts}
-use Rattle.expr_core.specs.Functions.{function_of, known, if_unknown, call_with, unknown_call}
+use Rattle.expr_core.specs.Functions.{function_of, known, if_unknown, call_with, unknown_call, earlier}
 
 -- one level of an expression, seen
 view_of : (x : Expr-F Expr PathStep TextPart Operand Pair PipeCall) → expr_view (roll-Expr x) ≡ expr_step (map-Expr _ _ _ _ _ _ _ _ _ _ _ _ expr_view step_view part_view operand_view pair_view call_view x)
@@ -196,3 +196,22 @@ pub pipe_unknown : (at : ℕ) (name : List ℕ) (l : model.Expr) (es : List Expr
 pipe_unknown at name l es =
     let n : length es + 1 ≡ length (l ∷ map expr_view es) = omega (arith, length-map es expr_view) in
     ap (λ k. if_unknown at (function_of name k)) n
+
+pub pipe_expr : (name s : List ℕ) (es items : List Expr) (e l : model.Expr) (f : Option Function) (g : Function) → s ≡ name → items ≡ es → f ≡ function_of s (length items + 1) → g ≡ known f → e ≡ model.call_of g (expr l (exprs_of (map expr_view es))) → e ≡ call_with name (l ∷ map expr_view es)
+pipe_expr name s es items e l f g same all found is sees =
+    sees
+    ∙ ap (λ k. model.call_of k (expr l (exprs_of (map expr_view es)))) is
+    ∙ ap (λ k. model.call_of (known k) (expr l (exprs_of (map expr_view es)))) found
+    ∙ ap (λ n. model.call_of (known (function_of n (length items + 1))) (expr l (exprs_of (map expr_view es)))) same
+    ∙ ap (λ n. model.call_of (known (function_of name (length n + 1))) (expr l (exprs_of (map expr_view es)))) all
+    ∙ pipe_seen name l es
+
+pub pipe_place : (at : ℕ) (name s : List ℕ) (es items : List Expr) (l : model.Expr) (f : Option Function) (u v w x y : Option ℕ) → s ≡ name → items ≡ es → f ≡ function_of s (length items + 1) → w ≡ if_unknown at f → x ≡ earlier w v → y ≡ earlier u x → y ≡ earlier u (earlier (unknown_call at name (l ∷ map expr_view es)) v)
+pipe_place at name s es items l f u v w x y same all found is first later =
+    later
+    ∙ ap (λ k. earlier u k) first
+    ∙ ap (λ k. earlier u (earlier k v)) is
+    ∙ ap (λ k. earlier u (earlier (if_unknown at k) v)) found
+    ∙ ap (λ n. earlier u (earlier (if_unknown at (function_of n (length items + 1))) v)) same
+    ∙ ap (λ n. earlier u (earlier (if_unknown at (function_of name (length n + 1))) v)) all
+    ∙ ap (λ k. earlier u (earlier k v)) (pipe_unknown at name l es)

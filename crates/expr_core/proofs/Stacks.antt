@@ -1,12 +1,12 @@
 -- Frames as they lie in memory.
-use Rattle.std.proofs.Common.{◌≡◌, ℕ, ◌+◌, ◌-◌, ◌≤◌, List, [], ◌∷◌, ◌++◌, map, length, Bool, true, false, refl, sym, ap, ◌∙◌, arith, length-append, subst}
-use Rattle.std.specs.Prelude.{slice_get, Option, Some, None, option_map, zero, suc, nat_le, if◌then◌else◌}
+use Rattle.std.proofs.Common.{◌≡◌, ℕ, ◌+◌, ◌-◌, ◌≤◌, List, [], ◌∷◌, ◌++◌, length, true, false, refl, sym, ap, ◌∙◌, arith, length-append}
+use Rattle.std.specs.Prelude.{slice_get, Some, option_map, zero, suc}
 use Rattle.expr_core.specs.declared.value.Style.TheVariants.{Bare, Inside}
 use Rattle.expr_core.specs.declared.frame.Frame.{Frame}
 use Rattle.expr_core.specs.declared.frame.Frame.TheVariants as frame
 use Rattle.expr_core.specs.Machine as machine
 use Rattle.expr_core.specs.Machine.{Frames, nest, reduce}
-use Rattle.expr_core.specs.Seen.{frame_view, value_view, seen, stack, first_of, level, style_level, Counts, is_closed_by, folded}
+use Rattle.expr_core.specs.Seen.{frame_view, seen, stack, first_of, level, Counts, is_closed_by, folded}
 
 pub stack_push : (fs : List Frame) (f : Frame) → stack (fs ++ f ∷ []) ≡ f ∷ stack fs
 stack_push [] f = refl

@@ -120,11 +120,7 @@ pub(crate) fn with_item(items: Seq<Expr>, item: Expr) -> Result<Seq<Expr>, OutOf
 
 /// Entries of a map with one more.
 #[tactic(auto, using(crate::proofs::Forms::pairs_more))]
-pub(crate) fn with_pair(
-    pairs: Seq<Pair>,
-    key: Text,
-    value: Expr,
-) -> Result<Seq<Pair>, OutOfMemory>
+pub(crate) fn with_pair(pairs: Seq<Pair>, key: Text, value: Expr) -> Result<Seq<Pair>, OutOfMemory>
     ensures { IfOk result (λ ps. map pair_view ps ≡ map pair_view pairs ++ (key, expr_view value) ∷ []) }
 {
     let mut pairs = pairs;

@@ -1,5 +1,5 @@
 //! What a bracket or the end of a part ends.
-ghost use Rattle.std.specs.Prelude.{◌≡◌, ◌∷◌, [], IfOk, map, option_map, Some};
+ghost use Rattle.std.specs.Prelude.{◌≡◌, ◌∷◌, IfOk, map, option_map, Some};
 ghost use Rattle.ast_core.specs.ExprView.{expr_view};
 ghost use Rattle.ast_core.specs.NamesIn.{part_view, pair_view};
 ghost use Rattle.expr_core.specs.Machine as machine;
@@ -9,9 +9,9 @@ use crate::call::{finish, map_from, with_item, with_pair, with_part, with_plain}
 use crate::frame::{Frame, Mode, Opener};
 use crate::functions::earlier;
 use crate::pile::Pile;
-use expr_token::Bracket;
 use crate::value::{Meant, Style, Value, chosen, chosen_else, closed, index_of};
 use ast_core::{Expr, Pair, TextPart};
+use expr_token::Bracket;
 use std::alloc::Global;
 use text_core::{OutOfMemory, Seq, Text};
 
@@ -218,11 +218,7 @@ fn empty_items(
 
 // The value of what a bracket ends without an item.
 #[tactic(auto, using(crate::proofs::Closes::empties))]
-fn empty_ended(
-    alloc: Global,
-    bracket: Bracket,
-    frame: Frame,
-) -> Result<Option<Value>, OutOfMemory>
+fn empty_ended(alloc: Global, bracket: Bracket, frame: Frame) -> Result<Option<Value>, OutOfMemory>
     ensures { IfOk result (λ v. (fs : machine.Frames) → machine.put_empty bracket (frame_view frame ∷ fs) ≡ machine.have_some (option_map value_view v) fs) }
 {
     match frame {
@@ -287,16 +283,7 @@ fn part_ended(
 {
     match frame {
         Frame::Putting(parts, unknown) => next_part(alloc, text, parts, unknown, value),
-        Frame::Paren => Ok(None),
-        Frame::Indexed(_left) => Ok(None),
-        Frame::Items(_opener, _items, _unknown) => Ok(None),
-        Frame::Valued(_pairs, _unknown, _key) => Ok(None),
-        Frame::Yes(_style, _test) => Ok(None),
-        Frame::No(_style, _test, _yes) => Ok(None),
-        Frame::Operand(_op, _left) => Ok(None),
-        Frame::Ahead(_op) => Ok(None),
-        Frame::Test => Ok(None),
-        Frame::InnerTest => Ok(None),
+        _other => Ok(None),
     }
 }
 

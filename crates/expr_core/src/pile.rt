@@ -1,5 +1,5 @@
 //! What is begun, as a pile.
-ghost use Rattle.std.specs.Prelude.{◌≡◌, ◌+◌, ◌≤◌, ◌∷◌, [], OnOk, MatchOption, option_map};
+ghost use Rattle.std.specs.Prelude.{◌≡◌, ◌+◌, ◌≤◌, ◌∷◌, [], OnOk, MatchOption};
 ghost use Rattle.std.specs.Option.{option_copied};
 ghost use Rattle.expr_core.specs.Machine.{nest};
 ghost use Rattle.expr_core.specs.Seen.{seen, first_of, level, style_level};
@@ -50,7 +50,6 @@ impl Model for Pile {
     ghost use Rattle.std.specs.Prelude.{List};
     ghost use Rattle.expr_core.specs.declared.frame.Frame.{Frame};
     ghost use Rattle.expr_core.specs.Seen.{stack, Counts};
-
     ghost use Rattle.std.specs.Coded.{codes};
     ghost use Rattle.ast_core.specs.contracts.expr.Expr as e;
     ghost use Rattle.ast_core.specs.contracts.expr.Pair as p;

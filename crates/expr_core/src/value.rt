@@ -1,16 +1,15 @@
 //! What was read, and how it is put together.
-ghost use Rattle.std.specs.Prelude.{◌≡◌, ◌≤◌, ◌∷◌, ◌++◌, [], IfOk, map, None};
+ghost use Rattle.std.specs.Prelude.{◌≡◌, ◌≤◌, ◌∷◌, [], IfOk, None};
 ghost use Rattle.ast_core.specs.Syntax as model;
-ghost use Rattle.ast_core.specs.ExprView.{expr_view, exprs_of, path_of};
-ghost use Rattle.ast_core.specs.NamesIn.{part_view, pair_view, step_view};
-ghost use Rattle.expr_core.specs.Functions.{call_with};
+ghost use Rattle.ast_core.specs.ExprView.{expr_view, path_of};
+ghost use Rattle.ast_core.specs.NamesIn.{step_view};
 ghost use Rattle.expr_core.specs.Grammar.{binds, is_denial, style_holds};
 ghost use Rattle.expr_core.specs.Machine as machine;
 ghost use Rattle.expr_core.specs.Seen.{meant_view, value_view, style_view};
 ghost use Rattle.expr_core.specs.Lines.{are_of_line};
 
-use crate::functions::{earlier, function_of, known};
-use ast_core::{BinaryOp, Expr, Operand, PathStep, PipeCall, UnaryOp};
+use crate::functions::earlier;
+use ast_core::{BinaryOp, Expr, Operand, PathStep, UnaryOp};
 use std::alloc::Global;
 use text_core::{OutOfMemory, Seq, Text};
 
@@ -111,12 +110,7 @@ fn are_of_line(rest: &[Operand], line: u8) -> bool
 }
 
 // An operator with its operands, as a chain of its own.
-fn new_chain(
-    alloc: Global,
-    op: BinaryOp,
-    left: Expr,
-    right: Expr,
-) -> Result<Expr, OutOfMemory>
+fn new_chain(alloc: Global, op: BinaryOp, left: Expr, right: Expr) -> Result<Expr, OutOfMemory>
     ensures { IfOk result (λ e. expr_view e ≡ model.binary op (expr_view left) (expr_view right)) }
 {
     let mut rest = Seq::new(alloc);

@@ -10,9 +10,9 @@ use crate::close::put_empty;
 use crate::frame::{Frame, Mode, Opener};
 use crate::pile::Pile;
 use crate::reduce::need;
-use expr_token::Token;
 use crate::value::{Callee, closed, named};
 use ast_core::{BinaryOp, Expr, UnaryOp};
+use expr_token::Token;
 use std::alloc::Global;
 use text_core::{OutOfMemory, Seq, Text};
 
