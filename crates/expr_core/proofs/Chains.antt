@@ -1,19 +1,25 @@
 -- Operators that group to the right, gathered from the last one.
-use Rattle.std.proofs.Common.{◌≡◌, ℕ, ◌≤◌, List, [], ◌∷◌, ◌++◌, map, Bool, true, false, Option, Some, None, refl, sym, ap, ◌∙◌, arith}
-use Rattle.std.specs.Prelude.{nat_le, nat_eq, if◌then◌else◌, reverse}
+use Rattle.std.proofs.Common.{◌≡◌, ℕ, ◌≤◌, List, [], ◌∷◌, ◌++◌, map, Bool, true, Option, Some, None, Box, sym, ap, ◌∙◌, arith}
+use Rattle.std.specs.Prelude.{reverse, Result, Ok, Err, IfOk}
 use Rattle.std.proofs.lemmas.Bool.{le-leb, eqb-true}
 use Rattle.std.proofs.lemmas.List.{reverse-append}
 use Rattle.ast_core.specs.Syntax as model
 use Rattle.ast_core.specs.declared.operators.BinaryOp.{BinaryOp}
+use Rattle.std.specs.declared.alloc.Global.{Global}
+use Rattle.ast_core.specs.declared.expr.Expr.{Expr}
+use Rattle.ast_core.specs.declared.expr.Expr.TheVariants as form
 use Rattle.ast_core.specs.declared.expr.Operand.{Operand}
-use Rattle.ast_core.specs.ExprView.{right_chain}
+use Rattle.ast_core.specs.ExprView.{expr_view, right_chain}
 use Rattle.ast_core.specs.NamesIn.{operand_view}
 use Rattle.expr_core.specs.declared.frame.Frame.{Frame}
 use Rattle.expr_core.specs.declared.frame.Frame.TheVariants as frame
+use Rattle.expr_core.specs.declared.value.Value.{Value}
+use Rattle.expr_core.specs.declared.chain.Gathered.{Gathered}
 use Rattle.expr_core.specs.Grammar.{binds, meant}
 use Rattle.expr_core.specs.Machine as machine
-use Rattle.expr_core.specs.Seen.{value_view, seen, first_of, folded, is_closed_by}
-use Rattle.expr_core.specs.Gathers.{groups_right}
+use Rattle.expr_core.specs.Seen.{value_view, seen, folded, is_closed_by}
+use Rattle.expr_core.specs.Gathers.{groups_right, gathered_view}
+use Rattle.expr_core.proofs.Forms.{sees_right}
 use Rattle.expr_core.proofs.Stacks.{reduce_goes}
 
 pub closes_right : (n : ℕ) (f : Frame) → n ≤ 7 → groups_right (Some f) ≡ true → is_closed_by n (Some f) ≡ true
@@ -39,5 +45,18 @@ right_front l f os gs x o more sees =
     ∙ ap (λ g. right_chain l (map operand_view g)) (reverse-append os (x ∷ []))
     ∙ ap (λ p. right_chain l (p ∷ map operand_view (reverse os))) sees
 
-pub same_value : (e f : model.Expr) (u w : Option ℕ) (n m : ℕ) (d : Bool) → e ≡ f → u ≡ w → n ≡ m → (let v : machine.Value = record { meant = meant e u; holds = n; denies = d; callee = None } in v) ≡ record { meant = meant f w; holds = m; denies = d; callee = None }
-same_value e f u w n m d p q r = cc
+abbrev value_of : model.Expr → Option ℕ → Bool → machine.Value
+value_of e u d = record { meant = meant e u; holds = 7; denies = d; callee = None }
+
+-- the chain of gathered operands
+pub gathered_seen : (g : Gathered) (b : Box Expr Global) (os : List Operand) → b.value ≡ g.first.meant.expr → os ≡ reverse g.behind → value_view (record { meant = record { expr = form.RightChain b os; unknown = g.unknown }; holds = 7; denies = g.first.denies; callee = None }) ≡ gathered_view g
+gathered_seen g b os p q =
+    ap (λ (e : model.Expr). value_of e g.unknown g.first.denies)
+    (sees_right b os
+    ∙ ap (λ (e : Expr). right_chain (expr_view e) (map operand_view os)) p
+    ∙ ap (λ (l : List Operand). right_chain (expr_view g.first.meant.expr) (map operand_view l)) q)
+
+-- what was kept so far is kept by the chain
+pub chain_keeps : {E : Type 0} (r : Result Value E) (u w : machine.Value) (fs gs : machine.Frames) → ((n : ℕ) → n ≤ 7 → machine.reduce n u fs ≡ machine.reduce n w gs) → IfOk r (λ v. value_view v ≡ w) → IfOk r (λ v. (n : ℕ) → n ≤ 7 → machine.reduce n u fs ≡ machine.reduce n (value_view v) gs)
+chain_keeps (Ok v) u w fs gs h e = λ n k. h n k ∙ ap (λ (x : machine.Value). machine.reduce n x gs) (sym e)
+chain_keeps (Err f) u w fs gs h e = tt

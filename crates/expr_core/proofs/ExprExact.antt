@@ -2,7 +2,6 @@
 use Rattle.std.proofs.Common.{◌≡◌, ℕ, List, [], ◌∷◌, ◌++◌, length, Option, Some, None, Ok, refl, sym, ap, ◌∙◌, subst, arith}
 use Rattle.ast_core.specs.Syntax.{Expr}
 use Rattle.expr_token.specs.declared.token.Token.{Token}
-use Rattle.expr_token.specs.declared.token.Placed.{Placed}
 use Rattle.expr_token.specs.declared.token.Opened.{Opened}
 use Rattle.expr_token.specs.Tokens.{left_open}
 use Rattle.expr_core.specs.Language.{Spells, Ended}

@@ -10,7 +10,6 @@ use Rattle.expr_token.specs.declared.token.Bracket.{Bracket}
 use Rattle.expr_token.specs.declared.token.Bracket.TheVariants.{Round, Square, Curly}
 use Rattle.expr_token.specs.declared.token.Token.{Token}
 use Rattle.expr_token.specs.declared.token.Token.TheVariants.{Number, Word, Atom, Nil, Boolean, Operator, Comma, Colon, OpeningSquare, OpeningCurly, OpeningMap, Closing, Quote, QuoteEnd}
-use Rattle.expr_token.specs.declared.token.Placed.{Placed}
 use Rattle.expr_token.specs.declared.token.Opened.{Opened}
 use Rattle.expr_token.specs.Tokens.{left_open}
 use Rattle.expr_core.specs.Language.{Mark, mark, Spells, Ended}

@@ -1,11 +1,11 @@
 -- What the forms of patterns stand for, and their frames in memory.
-use Rattle.std.proofs.Common.{◌≡◌, ℕ, ℤ, ◌+◌, arith, Bool, List, [], ◌∷◌, ◌++◌, map, length, refl, sym, ap, ◌∙◌, length-append}
+use Rattle.std.proofs.Common.{◌≡◌, ℕ, ℤ, ◌+◌, ◌<◌, arith, Bool, List, [], ◌∷◌, ◌++◌, map, length, refl, sym, ap, ◌∙◌, length-append}
 use Rattle.std.proofs.lemmas.List.{map-append}
 use Rattle.ast_core.specs.declared.pattern.Pattern.{Pattern}
 use Rattle.ast_core.specs.declared.pattern.PatternPair.{PatternPair}
-use Rattle.ast_core.specs.declared.pattern.Pattern.TheOpen.{Pattern-F, PatternPair-F}
+use Rattle.ast_core.specs.declared.pattern.Pattern.TheOpen.{Pattern-F}
 use Rattle.ast_core.specs.declared.pattern.Pattern.TheVariants as form
-use Rattle.ast_core.specs.declared.pattern.Pattern.TheViews.{roll-Pattern, roll-PatternPair}
+use Rattle.ast_core.specs.declared.pattern.Pattern.TheViews.{roll-PatternPair}
 use Rattle.ast_core.specs.declared.pattern.Pattern.TheFolds.{fold-roll-Pattern, fold-roll-PatternPair}
 use Rattle.value_core.specs.Value as value
 use Rattle.ast_core.specs.Syntax as model
@@ -17,8 +17,10 @@ use Rattle.expr_token.specs.declared.token.Bracket.TheVariants.{Round, Square, C
 use Rattle.expr_core.specs.declared.pattern_frame.PatternOpener.{PatternOpener}
 use Rattle.expr_core.specs.declared.pattern_frame.PatternOpener.TheVariants.{Listing, Tupling}
 use Rattle.expr_core.specs.declared.pattern_frame.PatternFrame.{PatternFrame}
+use Rattle.expr_core.specs.declared.pattern_frame.PatternMode.{PatternMode}
+use Rattle.expr_core.specs.declared.pattern_frame.PatternMode.TheVariants.{Want, Have, WantNumber, WantQuote, WantKey, WantColon}
 use Rattle.expr_core.specs.PatternMachine as machine
-use Rattle.expr_core.specs.SeenPattern.{opener_view, frame_view, piled, has_bracket}
+use Rattle.expr_core.specs.SeenPattern.{opener_view, frame_view, piled, state_of, has_bracket}
 
 pub sees_any : pattern_view form.Any ≡ model.any
 sees_any = ap pattern_view (sym form.rolls-Any) ∙ fold-roll-Pattern model.Pattern (List ℕ × model.Pattern) pattern_step pattern_pair_step Pattern-F.Any
@@ -130,3 +132,17 @@ pub nothing_stays : (ns : List (List ℕ)) (b : Bracket) → machine.put_empty n
 nothing_stays ns Round = refl
 nothing_stays ns Square = refl
 nothing_stays ns Curly = refl
+
+-- a pattern is not finished while something is open
+filled : (p : model.Pattern) (ns : List (List ℕ)) (fs : machine.Frames) → 0 < length fs → machine.finished (machine.have ns p fs) ≡ None
+filled p ns [] h = absurd (omega arith)
+filled p ns (f ∷ fs) h = refl
+
+pub unfinished : (m : PatternMode) (ns : List (List ℕ)) (fs : List PatternFrame) → (fs ≡ [] → false ≡ true) → machine.finished (state_of m ns (piled fs)) ≡ None
+unfinished m ns [] h = let e : false ≡ true = h refl in cc
+unfinished Want ns (f ∷ fs) h = refl
+unfinished (Have p) ns (f ∷ fs) h = filled (pattern_view p) ns (piled (f ∷ fs)) (omega (arith, piled_length (f ∷ fs)))
+unfinished WantNumber ns (f ∷ fs) h = refl
+unfinished (WantQuote s) ns (f ∷ fs) h = refl
+unfinished (WantKey ps) ns (f ∷ fs) h = refl
+unfinished (WantColon ps k) ns (f ∷ fs) h = refl

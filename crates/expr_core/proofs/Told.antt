@@ -1,6 +1,6 @@
 -- The answers, as the readers give them.
-use Rattle.std.proofs.Common.{◌≡◌, ℕ, ◌+◌, List, [], ◌∷◌, ◌++◌, map, length, refl, sym, ap, ◌∙◌, subst}
-use Rattle.std.specs.Prelude.{slice_get, zero, suc, Option, Some, None, Result, Ok, Err, false, true}
+use Rattle.std.proofs.Common.{◌≡◌, ℕ, ◌<◌, ◌≤◌, List, [], ◌∷◌, length, get_or, refl, sym, ap, ◌∙◌, subst, arith}
+use Rattle.std.specs.Prelude.{zero, suc, Option, Result, Ok, Err}
 use Rattle.std.specs.Prelude.{IfOk, IfErr}
 use Rattle.ast_core.specs.declared.expr.Expr.{Expr}
 use Rattle.ast_core.specs.declared.pattern.Pattern.{Pattern}
@@ -23,16 +23,22 @@ use Rattle.expr_core.specs.declared.fault.ExprFault.TheVariants as fault
 use Rattle.expr_core.specs.declared.fault.ExprKind.{ExprKind}
 use Rattle.expr_core.specs.declared.read.TokenFault.{TokenFault}
 use Rattle.expr_core.specs.declared.read.TokenFault.TheVariants.{Stray, BadNumber, TooDeep, Ended, OutOfMemory}
-use Rattle.expr_core.specs.Gives.{Faults, fault_of, answer_of, at_or_zero, end_kind, end_place, FaultTold, Refused, Answered, AnsweredPattern, RefusedRightly, PatternRefusedRightly}
+use Rattle.expr_core.specs.Gives.{Faults, fault_of, answer_of, end_kind, end_place, FaultTold, Refused, Answered, AnsweredPattern, RefusedRightly, PatternRefusedRightly}
 
-pub faulty : {A : Type 0} (t : Token) (n : ℕ) → Faults {A = A} (fault_of t n) (at_fault t n)
-faulty tokens.BadNumber n = refl
-faulty t n = refl
+pub faulty : (A : Type 0) (t : Token) (n : ℕ) → Faults {A = A} (fault_of t n) (at_fault t n)
+faulty A tokens.BadNumber n = refl
+faulty A t n = refl
 
-pub byte_get : (ps : List Placed) (n : ℕ) → byte_of ps n ≡ at_or_zero (slice_get ps n)
-byte_get [] n = refl
-byte_get (p ∷ ps) zero = refl
-byte_get (p ∷ ps) (suc n) = byte_get ps n
+-- the byte of a token that there is, and of one that there is not
+pub byte_at : (ps : List Placed) (n : ℕ) (p : Placed) → n < length ps → p ≡ get_or ps n p → p.at ≡ byte_of ps n
+byte_at [] n p h e = absurd (omega arith)
+byte_at (q ∷ ps) zero p h e = ap (λ (r : Placed). r.at) e
+byte_at (q ∷ ps) (suc n) p h e = byte_at ps n p (omega arith) e
+
+pub byte_none : (ps : List Placed) (n : ℕ) → length ps ≤ n → 0 ≡ byte_of ps n
+byte_none [] n h = refl
+byte_none (p ∷ ps) zero h = absurd (omega arith)
+byte_none (p ∷ ps) (suc n) h = byte_none ps n (omega arith)
 
 pub end_told : {A : Type 0} (os : List Opened) (size : ℕ) → at_text_end {A = A} os size ≡ refused (end_place (innermost os) size) (end_kind (innermost os))
 end_told [] size = refl

@@ -1,5 +1,5 @@
 -- Operators that group to the right, gathered from the last one.
-use Rattle.std.specs.Prelude.{List, map, reverse, Bool, false, nat_eq, Option, Some, None}
+use Rattle.std.specs.Prelude.{map, reverse, Bool, false, nat_eq, Option, Some, None}
 use Rattle.ast_core.specs.ExprView.{expr_view, right_chain}
 use Rattle.ast_core.specs.NamesIn.{operand_view}
 use Rattle.expr_core.specs.declared.frame.Frame.{Frame}

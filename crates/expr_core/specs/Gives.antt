@@ -1,5 +1,5 @@
 -- What the reader over tokens returns, seen as an outcome.
-use Rattle.std.specs.Prelude.{◌≡◌, ℕ, List, [], ◌∷◌, ◌++◌, map, Option, Some, None, Result, Ok, Err}
+use Rattle.std.specs.Prelude.{◌≡◌, ℕ, List, map, Option, Some, None, Result, Ok, Err}
 use Rattle.ast_core.specs.declared.expr.Expr.{Expr}
 use Rattle.ast_core.specs.declared.pattern.Pattern.{Pattern}
 use Rattle.ast_core.specs.ExprView.{expr_view}
@@ -80,11 +80,6 @@ Answered (Err f) r = Refused f r
 abbrev pub AnsweredPattern : Result Pattern ExprFault → Result model.Pattern Refusal → Type 0
 AnsweredPattern (Ok p) r = r ≡ Ok (pattern_view p)
 AnsweredPattern (Err f) r = Refused f r
-
--- the byte of a token that there may be
-abbrev pub at_or_zero : Option Placed → ℕ
-at_or_zero None = 0
-at_or_zero (Some p) = p.at
 
 -- what a fault in tokens is in the text of this length, but that memory may be wanting
 abbrev pub FaultTold : List Placed → Option Opened → ℕ → TokenFault → ExprFault → Type 0

@@ -11,11 +11,11 @@ ghost use Rattle.expr_core.specs.declared.fault.ExprFault.TheVariants as fault;
 ghost use Rattle.ast_core.specs.ExprView.{expr_view};
 
 use crate::fault::{ExprFault, ExprKind};
-use crate::read::{TokenFault, read_tokens};
 use crate::pattern_read::read_pattern_tokens;
-use expr_token::{Opened, Placed};
+use crate::read::{TokenFault, read_tokens};
 use crate::value::Meant;
 use ast_core::{Expr, Pattern};
+use expr_token::{Opened, Placed};
 use std::alloc::Global;
 use text_core::OutOfMemory;
 
@@ -31,7 +31,7 @@ impl From<OutOfMemory> for ExprFault {
 }
 
 // The byte of the n-th token.
-#[tactic(auto, using(crate::proofs::Told::byte_get))]
+#[tactic(auto, using(crate::proofs::Told::byte_at, crate::proofs::Told::byte_none))]
 fn byte_of(tokens: &[Placed], n: usize) -> usize
     ensures { result ≡ byte_of tokens.now n }
 {

@@ -33,12 +33,7 @@ fn groups_right(frames: &Pile) -> bool
 
 // The last two operands.
 #[tactic(auto, using(crate::proofs::Chains::right_front, crate::proofs::Forms::sees_operand))]
-fn begun(
-    alloc: Global,
-    op: BinaryOp,
-    left: Value,
-    right: Value,
-) -> Result<Gathered, OutOfMemory>
+fn begun(alloc: Global, op: BinaryOp, left: Value, right: Value) -> Result<Gathered, OutOfMemory>
     requires { binding_of op ≡ 7 }
     ensures { IfOk result (λ g. gathered_view g ≡ machine.both op (value_view left) (value_view right)) }
 {

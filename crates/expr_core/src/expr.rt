@@ -9,8 +9,8 @@ ghost use Rattle.expr_core.specs.Gives.{Answered, AnsweredPattern, RefusedRightl
 
 use crate::answer::{expr_from, pattern_from};
 use crate::fault::ExprFault;
-use expr_token::lex;
 use ast_core::{Expr, Pattern};
+use expr_token::lex;
 use std::alloc::Global;
 
 /// The expression that a text is, in which each call names a function. Otherwise `Refused`, with the byte of the first

@@ -10,8 +10,8 @@ ghost use Rattle.expr_core.specs.Gives.{spelled};
 use crate::pattern_frame::{PatternFrame, PatternMode};
 use crate::pattern_step::step;
 use crate::read::{TokenFault, fault_at};
-use expr_token::Placed;
 use ast_core::Pattern;
+use expr_token::Placed;
 use std::alloc::Global;
 use text_core::{Names, Seq};
 

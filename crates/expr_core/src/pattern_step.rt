@@ -9,8 +9,8 @@ ghost use Rattle.expr_core.specs.PatternMachine as machine;
 ghost use Rattle.expr_core.specs.SeenPattern.{opener_view, frame_view, piled, state_of, led, has_bracket, IsPlain};
 
 use crate::pattern_frame::{PatternFrame, PatternMode, PatternOpener, pop_frame, push_frame};
-use expr_token::{Bracket, Token};
 use ast_core::{BinaryOp, Pattern, PatternPair};
+use expr_token::{Bracket, Token};
 use std::alloc::Global;
 use text_core::{Names, OutOfMemory, Seq, Text};
 
@@ -151,11 +151,7 @@ fn put_comma(
 }
 
 #[tactic(auto, using(crate::proofs::PatternForms::empty_ends, crate::proofs::PatternForms::empty_stays, crate::proofs::PatternForms::filled_stays))]
-fn empty_items(
-    bracket: Bracket,
-    opener: PatternOpener,
-    items: Seq<Pattern>,
-) -> Option<PatternMode>
+fn empty_items(bracket: Bracket, opener: PatternOpener, items: Seq<Pattern>) -> Option<PatternMode>
     ensures { (ns : List (List ℕ)) (fs : machine.Frames) → machine.put_empty ns bracket (machine.items (opener_view opener) (map pattern_view items) ∷ fs) ≡ led result ns fs }
 {
     if !items.is_empty() {

@@ -9,7 +9,7 @@ use Rattle.expr_core.proofs.pattern_read.read_pattern_tokens.Given as goal
 abbrev pub invariant-each : goal.invariant-each
 invariant-each l = record {
   same : outcome pattern_reader (spelled (drop l.at l.tokens)) l.at (state_of l.mode l.names (piled l.frames)) ≡ outcome_of pattern_reader (spelled l.tokens);
-  plain : AllByRecursion IsPlain (spelled (drop l.at l.tokens))
+  plain : AllByRecursion IsPlain (spelled (drop l.at l.tokens));
 }
 
 abbrev pub decreases-each : goal.decreases-each
