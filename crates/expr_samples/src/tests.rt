@@ -153,10 +153,10 @@ fn sixty_four_levels(rt: HostRuntime) -> Result<(), Fail> {
 #[test]
 fn a_chain_of_a_hundred_thousand_operators(rt: HostRuntime) -> Result<(), Fail> {
     let alloc = rt.alloc();
-    let mut text = repeated(alloc, "1+1-", 20)?;
+    let mut text = repeated(alloc, "1+1-", 50000)?;
     text.push('1')?;
     assert_eq!(rt; outcome(alloc, text.as_str())?.as_str(), "1");
-    let mut lists = repeated(alloc, "[]++", 4)?;
+    let mut lists = repeated(alloc, "[]++", 100000)?;
     lists.push_str("[1]")?;
     assert_eq!(rt; outcome(alloc, lists.as_str())?.as_str(), "[1]");
     Ok(())
