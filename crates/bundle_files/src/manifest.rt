@@ -1,7 +1,7 @@
 //! The reader of manifests.
 ghost use Rattle.std.specs.Prelude.{◌≡◌, IfOk, option_map, option_and_then, codes};
 ghost use Rattle.std.specs.List.{list_all};
-ghost use Rattle.serde_json.specs.View.{view, items_view, members_view};
+ghost use Rattle.serde_json.specs.View.{view, members_view};
 ghost use Rattle.serde_json.specs.Find.{get, as_number, as_u64};
 ghost use Rattle.bundle_files.specs.StepsView.{events_view};
 ghost use Rattle.bundle_files.specs.ManifestView.{manifest_view};

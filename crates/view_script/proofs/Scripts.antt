@@ -1,5 +1,5 @@
 -- Assigns and the values given since; steps one by one.
-use Rattle.std.proofs.Common.{◌≡◌, ◌<◌, ◌≤◌, ◌+◌, ◌++◌, ℕ, List, [], ◌∷◌, length, get_or, drop, map, Bool, true, false, cond, if◌then◌else◌, Option, Some, None, option_map, Result, Ok, Err, OnOk, refl, sym, ap, subst, ◌∙◌}
+use Rattle.std.proofs.Common.{◌≡◌, ◌<◌, ◌≤◌, ◌+◌, ◌++◌, ℕ, List, [], ◌∷◌, length, get_or, drop, Bool, true, false, if◌then◌else◌, Option, Some, None, option_map, Result, Ok, Err, OnOk, refl, sym, ap, subst, ◌∙◌}
 use Rattle.std.specs.Option.{option_and_then}
 use Rattle.std.specs.Str.{bytes_eq}
 use Rattle.std.proofs.Math.ListN.{drop_of_length-le}
@@ -22,7 +22,7 @@ use Rattle.doc_model.specs.Evaluation.{is_true}
 use Rattle.doc_model.proofs.Names.{Agree, eval_agrees}
 use Rattle.expr_eval.proofs.Views.{lookup_seen}
 use Rattle.view_api.specs.Effect.{Effect, assign_to}
-use Rattle.view_api.specs.View.{effect_view, effects_view, Means}
+use Rattle.view_api.specs.View.{effect_view, effects_view}
 use Rattle.view_api.specs.declared.effect.Effect as effect
 use Rattle.view_api.specs.declared.effect.Effect.TheVariants as effect_form
 use Rattle.view_api.specs.declared.views.ViewFault.{ViewFault}
@@ -34,7 +34,7 @@ use Rattle.bundle_files.specs.declared.bundle.Step.TheVariants as form
 use Rattle.bundle_files.specs.declared.bundle.Step.TheOpen.{Step-F}
 use Rattle.bundle_files.specs.declared.bundle.Step.TheFolds.{fold-roll-Step}
 use Rattle.view_script.specs.declared.script.Doing.{Doing}
-use Rattle.view_script.specs.Script.{Done, given, value_or_none, value_in, step_done, steps_done, effects_of}
+use Rattle.view_script.specs.Script.{Done, given, value_or_none, value_in, step_done, steps_done}
 use Rattle.view_script.specs.Doing.{Values, Stands, Does}
 
 -- ---- what names hold

@@ -1,6 +1,5 @@
 -- What the code keeps while it does steps.
 use Rattle.std.specs.Prelude.{◌≡◌, ℕ, List, Option, Some, None, Result, Ok, Err}
-use Rattle.text_core.specs.declared.by_key.KeyValue.{KeyValue}
 use Rattle.value_core.specs.Value as model
 use Rattle.value_core.specs.Value.{Assigns}
 use Rattle.value_core.specs.View.{view, assigns_view}

@@ -1,13 +1,11 @@
 //! The effects of steps.
-ghost use Rattle.std.specs.Prelude.{◌≡◌, [], ◌∷◌, ◌++◌, OnOk, IfOk, Some};
-ghost use Rattle.text_core.specs.Keyed.{with_key};
+ghost use Rattle.std.specs.Prelude.{OnOk};
 ghost use Rattle.value_core.specs.Value.{Assigns as Scope};
 ghost use Rattle.value_core.specs.View.{view, assigns_view};
 ghost use Rattle.ast_core.specs.ExprView.{expr_view};
 ghost use Rattle.doc_model.specs.Environment.{over};
 ghost use Rattle.bundle_files.specs.StepsView.{step_view, steps_view};
-ghost use Rattle.view_api.specs.Effect.{assign_to};
-ghost use Rattle.view_api.specs.View.{effect_view, effects_view, Means};
+ghost use Rattle.view_api.specs.View.{Means};
 ghost use Rattle.view_script.specs.Script.{Done, given, value_in, step_done, steps_done, effects_of};
 ghost use Rattle.view_script.specs.Doing.{Stands, Does, Values};
 

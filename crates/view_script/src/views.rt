@@ -1,8 +1,7 @@
 //! Views by the steps of a manifest.
-ghost use Rattle.std.specs.Prelude.{◌≡◌, IfOk, Some, None, [], ◌==◌, if◌then◌else◌};
+ghost use Rattle.std.specs.Prelude.{◌≡◌, IfOk};
 ghost use Rattle.value_core.specs.View.{view as value_view, assigns_view};
 ghost use Rattle.view_api.specs.View.{Means};
-ghost use Rattle.view_script.specs.Script.{effects_of};
 ghost use Rattle.view_script.specs.Views.{script_of, variable, begun, nothing_done, taken, meaning_of_script};
 
 use crate::script::effects_of;
