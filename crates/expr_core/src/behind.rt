@@ -4,7 +4,7 @@ ghost use Rattle.ast_core.specs.ExprView.{expr_view};
 ghost use Rattle.ast_core.specs.NamesIn.{pair_view};
 ghost use Rattle.expr_core.specs.Grammar.{binds as binding_of, left_of as left_bound, may_deny};
 ghost use Rattle.expr_core.specs.Machine as machine;
-ghost use Rattle.expr_core.specs.Seen.{is_test, test_style, choice_goes_on, meant_view, style_view, value_view, callee_view, opener_view, frame_view, seen, led};
+ghost use Rattle.expr_core.specs.Seen.{is_test, test_style, choice_goes_on, meant_view, style_view, value_view, callee_view, opener_view, frame_view, seen, state_of, led};
 ghost use Rattle.expr_token.specs.declared.token.Token.TheVariants as tokens;
 
 use crate::call::{with_item, with_pair};

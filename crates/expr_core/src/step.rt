@@ -1,5 +1,5 @@
 //! One token of an expression.
-ghost use Rattle.std.specs.Prelude.{◌≡◌, IfOk, map};
+ghost use Rattle.std.specs.Prelude.{◌≡◌, [], IfOk, map};
 ghost use Rattle.ast_core.specs.NamesIn.{part_view, pair_view};
 ghost use Rattle.expr_core.specs.Machine as machine;
 ghost use Rattle.expr_core.specs.Seen.{value_view, meant_view, opener_view, style_view, seen, state_of, led};
