@@ -7,6 +7,7 @@ use Rattle.value_core.specs.Value as model
 use Rattle.value_core.specs.View.{view, assigns_view}
 use Rattle.value_core.specs.declared.value.Value.{Value}
 use Rattle.doc_model.specs.Environment.{Env, Stream, Component, over}
+use Rattle.doc_model.specs.Evaluation.{or_value}
 use Rattle.expr_eval.specs.declared.scope.Scope.{Scope}
 
 abbrev pub env_with : List (KeyValue Value) → List (KeyValue Value) → Option (List ℕ → Stream) → List Component → Env
@@ -23,3 +24,7 @@ env_of scope = env_over scope.given.now scope.assigns.now scope.variables.now No
 -- what stands behind a reference, where there is one
 abbrev pub seen : Option (Bor Value) → Option model.Value
 seen o = option_map view (option_copied o)
+
+-- what a path has come to: nil where there is nothing
+abbrev pub place_view : Option (Bor Value) → model.Value
+place_view o = or_value model.nil (seen o)

@@ -7,15 +7,15 @@ ghost use Rattle.doc_model.specs.Environment.{Stream, Component};
 ghost use Rattle.doc_model.specs.Evaluation.{eval_expr, eval_exprs, eval_pairs, eval_parts, on_res};
 ghost use Rattle.expr_eval.specs.Chains.{chain, operand_on, step_on, call_on, right_on, part_text, prepend};
 ghost use Rattle.expr_eval.specs.Gives.{Gives, text_as_is};
-ghost use Rattle.expr_eval.specs.Scope.{env_of, env_over, env_with};
+ghost use Rattle.expr_eval.specs.Scope.{env_of, env_over, env_with, place_view};
 
 use crate::EvalFault;
 use crate::functions::call;
 use crate::judge::{decides, shallow, was_true};
-use crate::maps::{field, found, index};
+use crate::maps::{copied, field, found, index};
 use crate::operators::{binary, unary};
 use crate::right_chain::{Waiting, take_back};
-use crate::scope::Scope;
+use crate::scope::{Scope, place};
 use crate::text::printed_out;
 use ast_core::{Expr, Exprs, Operand, Pairs, Parts, PathStep, PipeCall, TextPart};
 use std::alloc::Global;
@@ -68,37 +68,25 @@ fn value_of(alloc: Global, expr: &Expr, scope: Scope<'_>) -> Result<Value, EvalF
         Expr::Bool(b) => Ok(Value::Bool(*b)),
         Expr::Assign(name) => found(alloc, scope.assign(name.as_str()), Raise::NoAssign),
         Expr::Name(name) => found(alloc, scope.variable(name.as_str()), Raise::NoVariable),
-        Expr::List(items) => {
-            let items = values_on(alloc, items, Seq::new(alloc), scope)?;
-            shallow(Value::List(items))
-        }
-        Expr::Tuple(items) => {
-            let items = values_on(alloc, items, Seq::new(alloc), scope)?;
-            shallow(Value::Tuple(items))
-        }
-        Expr::Map(pairs) => {
-            let entries = entries_of(alloc, pairs, scope)?;
-            shallow(Value::Map(entries))
-        }
+        Expr::List(items) => shallow(Value::List(values_of(alloc, items, scope)?)),
+        Expr::Tuple(items) => shallow(Value::Tuple(values_of(alloc, items, scope)?)),
+        Expr::Map(pairs) => shallow(Value::Map(entries_of(alloc, pairs, scope)?)),
         Expr::Path { value, steps } => {
-            let value = value_of(alloc, value, scope)?;
-            walk(alloc, steps, value, scope)
+            if let Some(from) = place(value, scope) {
+                return walk(alloc, steps, from, scope);
+            }
+            let from = value_of(alloc, value, scope)?;
+            walk(alloc, steps, &from, scope)
         }
-        Expr::Unary { op, value } => {
-            let value = value_of(alloc, value, scope)?;
-            unary(*op, value)
-        }
+        Expr::Unary { op, value } => unary(*op, value_of(alloc, value, scope)?),
         Expr::LeftChain { first, rest } => {
-            let first = value_of(alloc, first, scope)?;
-            left_chain(alloc, rest, first, scope)
+            left_chain(alloc, rest, value_of(alloc, first, scope)?, scope)
         }
         Expr::RightChain { first, rest } => {
-            let first = value_of(alloc, first, scope)?;
-            right_chain(alloc, rest, first, scope)
+            right_chain(alloc, rest, value_of(alloc, first, scope)?, scope)
         }
         Expr::If { test, yes, no } => {
-            let test = value_of(alloc, test, scope)?;
-            if was_true(test) {
+            if was_true(value_of(alloc, test, scope)?) {
                 return value_of(alloc, yes, scope);
             }
             match no {
@@ -109,15 +97,18 @@ fn value_of(alloc: Global, expr: &Expr, scope: Scope<'_>) -> Result<Value, EvalF
         Expr::Call {
             function,
             arguments,
-        } => {
-            let arguments = values_on(alloc, arguments, Seq::new(alloc), scope)?;
-            call(alloc, *function, arguments)
-        }
+        } => call(alloc, *function, values_of(alloc, arguments, scope)?),
         Expr::Pipes { first, calls } => {
-            let first = value_of(alloc, first, scope)?;
-            pipes(alloc, calls, first, scope)
+            pipes(alloc, calls, value_of(alloc, first, scope)?, scope)
         }
     }
+}
+
+#[cycle(eval)]
+fn values_of(alloc: Global, exprs: &Exprs, scope: Scope<'_>) -> Result<Values, EvalFault>
+    ensures { Gives values_view result (eval_exprs (env_of scope.entry) (exprs_view exprs.now)) }
+{
+    values_on(alloc, exprs, Seq::new(alloc), scope)
 }
 
 // The values of expressions, behind others.
@@ -176,36 +167,37 @@ fn part_of(alloc: Global, part: &TextPart, scope: Scope<'_>) -> Result<Text, Eva
     }
 }
 
+// A copy of the value that the steps lead to.
 #[cycle(eval)]
 fn walk(
     alloc: Global,
     steps: &Seq<PathStep>,
-    value: Value,
+    from: &Value,
     scope: Scope<'_>,
 ) -> Result<Value, EvalFault>
-    ensures { Gives view result (chain (step_on (env_of scope.entry)) (Ok (view value)) (map step_view steps.now)) }
+    ensures { Gives view result (chain (step_on (env_of scope.entry)) (Ok (view from.now)) (map step_view steps.now)) }
 {
-    let mut value = value;
+    let mut at = Some(from);
     'steps: for step in steps.as_slice() {
-        value = go_into(alloc, step, value, scope)?;
+        at = go_into(alloc, step, at, scope)?;
     }
-    Ok(value)
+    copied(alloc, at)
 }
 
 #[cycle(eval)]
-fn go_into(
+fn go_into<'a>(
     alloc: Global,
     step: &PathStep,
-    value: Value,
+    at: Option<&'a Value>,
     scope: Scope<'_>,
-) -> Result<Value, EvalFault>
-    ensures { Gives view result (step_on (env_of scope.entry) (step_view step.now) (view value)) }
+) -> Result<Option<&'a Value>, EvalFault>
+    ensures { Gives place_view result (step_on (env_of scope.entry) (step_view step.now) (place_view at.entry)) }
 {
     match step {
-        PathStep::Field(key) => field(alloc, value, key.as_str()),
+        PathStep::Field(key) => field(at, key.as_str()),
         PathStep::Index(expr) => {
             let key = value_of(alloc, expr, scope)?;
-            index(alloc, value, key)
+            index(at, key)
         }
     }
 }

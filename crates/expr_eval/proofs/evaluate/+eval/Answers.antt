@@ -12,24 +12,14 @@ use Rattle.doc_model.specs.Evaluation.{or_raise, on_res, then_do, eval_expr, eva
 use Rattle.expr_eval.specs.Chains.{chain, operand_on, step_on, call_on, right_on, back, waiting_view, prepend}
 use Rattle.expr_eval.specs.declared.right_chain.Waiting.{Waiting}
 use Rattle.expr_eval.specs.Gives.{Gives, text_as_is, truth_as_is}
-use Rattle.expr_eval.specs.Scope.{env_of, seen}
+use Rattle.expr_eval.specs.Scope.{env_of, seen, place_view}
 use Rattle.expr_eval.proofs.Results.{gives_as, fault_then}
 use Rattle.expr_eval.proofs.Keys.{pairs_into, pairs_from_none}
-use Rattle.expr_eval.proofs.Forms.{assign_form, name_form, path_form, left_form, right_form, pipes_form, operand_form, pair_form}
-use Rattle.expr_eval.proofs.Chained.{chain_on, chain_stops, chain_begins, chain_ends, left_is, path_is, pipes_is, right_is, operand_met, right_decided, right_judged, right_stops, right_step, right_ends}
+use Rattle.expr_eval.proofs.Forms.{assign_form, name_form, operand_form, pair_form}
+use Rattle.expr_eval.proofs.Along.{along_path, along_left, along_right, along_pipes}
+use Rattle.expr_eval.proofs.Chained.{chain_on, chain_stops, chain_begins, chain_ends, operand_met, right_decided, right_judged, right_stops, right_step, right_ends}
 use Rattle.expr_eval.proofs.Listed.{exprs_on, exprs_stop, exprs_end, parts_begin, parts_on, parts_stop, parts_end, pairs_on, pairs_stop, pairs_end}
 use Rattle.expr_eval.proofs.evaluate.+eval.Goals as goal
-
-pub walk-returns-in_err-value : goal.walk-returns-in_err-value
-walk-returns-in_err-value t c =
-    let total = chain (step_on (env_of c.args.scope)) (Ok (view c.args.value)) (map step_view c.args.steps.now) in
-    let h : Gives view (Err c.in_err-value.field-0.0) total
-    = chain_stops view view (step_on (env_of c.args.scope)) step_view c.as_slice-step-items.result.now c.steps.step-index c.step-item.result (view c.steps.value) c.in_err-value.field-0.0 total c.steps-test.true c.step-item.is c.steps.invariant c.in_err-value.ensures in
-    search (rules, h)
-
-pub walk-steps-preserved : goal.walk-steps-preserved
-walk-steps-preserved t c =
-    chain_on (step_on (env_of c.args.scope)) step_view c.as_slice-step-items.result.now c.steps.step-index c.step-item.result (view c.steps.value) (view c.in_ok-value.value) (chain (step_on (env_of c.args.scope)) (Ok (view c.args.value)) (map step_view c.args.steps.now)) c.steps-test.true c.step-item.is c.steps.invariant c.in_ok-value.ensures
 
 pub left_chain-returns-in_err-value : goal.left_chain-returns-in_err-value
 left_chain-returns-in_err-value t c =
@@ -112,58 +102,6 @@ entries_of-returns t c =
     let past : length c.as_slice-pair-items.result.now ≤ c.pairs.pair-index = omega arith in
     pairs_end (env_of c.args.scope) c.as_slice-pair-items.result.now c.pairs.pair-index (assigns_view c.pairs.entries) (eval_pairs (env_of c.args.scope) (pairs_of (map pair_view c.args.pairs.now))) past c.pairs.invariant
 
-pub value_of-returns-in_err-value-in-Path : goal.value_of-returns-in_err-value-in-Path
-value_of-returns-in_err-value-in-Path t c =
-    let h : Gives view (Err c.in_err-value-in-Path.field-0.0) (eval_expr (env_of c.args.scope) (expr_view c.args.expr.now))
-    = gives_as view (Err c.in_err-value-in-Path.field-0.0) (eval_expr (env_of c.args.scope) (expr_view c.args.expr.now)) (chain (step_on (env_of c.args.scope)) (eval_expr (env_of c.args.scope) (expr_view c.deref.result.now)) (map step_view c.in-Path.steps)) (ap (λ e. eval_expr (env_of c.args.scope) (expr_view e)) c.in-Path.is ∙ ap (eval_expr (env_of c.args.scope)) (path_form c.in-Path.value c.in-Path.steps) ∙ path_is (env_of c.args.scope) (expr_view c.in-Path.value.value) (map step_view c.in-Path.steps) ∙ ap (λ e. chain (step_on (env_of c.args.scope)) (eval_expr (env_of c.args.scope) (expr_view e)) (map step_view c.in-Path.steps)) (sym c.deref.ensures))
-    (chain_begins view view (step_on (env_of c.args.scope)) (eval_expr (env_of c.args.scope) (expr_view c.deref.result.now)) (map step_view c.in-Path.steps) c.in_err-value-in-Path.field-0.0 c.in_err-value-in-Path.ensures) in
-    search (rules, h)
-
-pub value_of-returns-in_ok-value-in-Path : goal.value_of-returns-in_ok-value-in-Path
-value_of-returns-in_ok-value-in-Path t c =
-    gives_as view c.walk.result (eval_expr (env_of c.args.scope) (expr_view c.args.expr.now)) (chain (step_on (env_of c.args.scope)) (Ok (view c.in_ok-value-in-Path.value)) (map step_view c.in-Path.steps))
-    ((ap (λ e. eval_expr (env_of c.args.scope) (expr_view e)) c.in-Path.is ∙ ap (eval_expr (env_of c.args.scope)) (path_form c.in-Path.value c.in-Path.steps) ∙ path_is (env_of c.args.scope) (expr_view c.in-Path.value.value) (map step_view c.in-Path.steps) ∙ ap (λ e. chain (step_on (env_of c.args.scope)) (eval_expr (env_of c.args.scope) (expr_view e)) (map step_view c.in-Path.steps)) (sym c.deref.ensures)) ∙ ap (λ r. chain (step_on (env_of c.args.scope)) r (map step_view c.in-Path.steps)) c.in_ok-value-in-Path.ensures)
-    c.walk.ensures
-
-pub value_of-returns-in_err-first-in-LeftChain : goal.value_of-returns-in_err-first-in-LeftChain
-value_of-returns-in_err-first-in-LeftChain t c =
-    let h : Gives view (Err c.in_err-first-in-LeftChain.field-0.0) (eval_expr (env_of c.args.scope) (expr_view c.args.expr.now))
-    = gives_as view (Err c.in_err-first-in-LeftChain.field-0.0) (eval_expr (env_of c.args.scope) (expr_view c.args.expr.now)) (chain (operand_on (env_of c.args.scope)) (eval_expr (env_of c.args.scope) (expr_view c.deref-in-LeftChain.result.now)) (map operand_view c.in-LeftChain.rest)) (ap (λ e. eval_expr (env_of c.args.scope) (expr_view e)) c.in-LeftChain.is ∙ ap (eval_expr (env_of c.args.scope)) (left_form c.in-LeftChain.first c.in-LeftChain.rest) ∙ left_is (env_of c.args.scope) (expr_view c.in-LeftChain.first.value) (map operand_view c.in-LeftChain.rest) ∙ ap (λ e. chain (operand_on (env_of c.args.scope)) (eval_expr (env_of c.args.scope) (expr_view e)) (map operand_view c.in-LeftChain.rest)) (sym c.deref-in-LeftChain.ensures))
-    (chain_begins view view (operand_on (env_of c.args.scope)) (eval_expr (env_of c.args.scope) (expr_view c.deref-in-LeftChain.result.now)) (map operand_view c.in-LeftChain.rest) c.in_err-first-in-LeftChain.field-0.0 c.in_err-first-in-LeftChain.ensures) in
-    search (rules, h)
-
-pub value_of-returns-in_ok-first-in-LeftChain : goal.value_of-returns-in_ok-first-in-LeftChain
-value_of-returns-in_ok-first-in-LeftChain t c =
-    gives_as view c.left_chain.result (eval_expr (env_of c.args.scope) (expr_view c.args.expr.now)) (chain (operand_on (env_of c.args.scope)) (Ok (view c.in_ok-first-in-LeftChain.first)) (map operand_view c.in-LeftChain.rest))
-    ((ap (λ e. eval_expr (env_of c.args.scope) (expr_view e)) c.in-LeftChain.is ∙ ap (eval_expr (env_of c.args.scope)) (left_form c.in-LeftChain.first c.in-LeftChain.rest) ∙ left_is (env_of c.args.scope) (expr_view c.in-LeftChain.first.value) (map operand_view c.in-LeftChain.rest) ∙ ap (λ e. chain (operand_on (env_of c.args.scope)) (eval_expr (env_of c.args.scope) (expr_view e)) (map operand_view c.in-LeftChain.rest)) (sym c.deref-in-LeftChain.ensures)) ∙ ap (λ r. chain (operand_on (env_of c.args.scope)) r (map operand_view c.in-LeftChain.rest)) c.in_ok-first-in-LeftChain.ensures)
-    c.left_chain.ensures
-
-pub value_of-returns-in_err-first-in-Pipes : goal.value_of-returns-in_err-first-in-Pipes
-value_of-returns-in_err-first-in-Pipes t c =
-    let h : Gives view (Err c.in_err-first-in-Pipes.field-0.0) (eval_expr (env_of c.args.scope) (expr_view c.args.expr.now))
-    = gives_as view (Err c.in_err-first-in-Pipes.field-0.0) (eval_expr (env_of c.args.scope) (expr_view c.args.expr.now)) (chain (call_on (env_of c.args.scope)) (eval_expr (env_of c.args.scope) (expr_view c.deref-in-Pipes.result.now)) (map call_view c.in-Pipes.calls)) (ap (λ e. eval_expr (env_of c.args.scope) (expr_view e)) c.in-Pipes.is ∙ ap (eval_expr (env_of c.args.scope)) (pipes_form c.in-Pipes.first c.in-Pipes.calls) ∙ pipes_is (env_of c.args.scope) (expr_view c.in-Pipes.first.value) (map call_view c.in-Pipes.calls) ∙ ap (λ e. chain (call_on (env_of c.args.scope)) (eval_expr (env_of c.args.scope) (expr_view e)) (map call_view c.in-Pipes.calls)) (sym c.deref-in-Pipes.ensures))
-    (chain_begins view view (call_on (env_of c.args.scope)) (eval_expr (env_of c.args.scope) (expr_view c.deref-in-Pipes.result.now)) (map call_view c.in-Pipes.calls) c.in_err-first-in-Pipes.field-0.0 c.in_err-first-in-Pipes.ensures) in
-    search (rules, h)
-
-pub value_of-returns-in_ok-first-in-Pipes : goal.value_of-returns-in_ok-first-in-Pipes
-value_of-returns-in_ok-first-in-Pipes t c =
-    gives_as view c.pipes.result (eval_expr (env_of c.args.scope) (expr_view c.args.expr.now)) (chain (call_on (env_of c.args.scope)) (Ok (view c.in_ok-first-in-Pipes.first)) (map call_view c.in-Pipes.calls))
-    ((ap (λ e. eval_expr (env_of c.args.scope) (expr_view e)) c.in-Pipes.is ∙ ap (eval_expr (env_of c.args.scope)) (pipes_form c.in-Pipes.first c.in-Pipes.calls) ∙ pipes_is (env_of c.args.scope) (expr_view c.in-Pipes.first.value) (map call_view c.in-Pipes.calls) ∙ ap (λ e. chain (call_on (env_of c.args.scope)) (eval_expr (env_of c.args.scope) (expr_view e)) (map call_view c.in-Pipes.calls)) (sym c.deref-in-Pipes.ensures)) ∙ ap (λ r. chain (call_on (env_of c.args.scope)) r (map call_view c.in-Pipes.calls)) c.in_ok-first-in-Pipes.ensures)
-    c.pipes.ensures
-
-pub value_of-returns-in_err-first-in-RightChain : goal.value_of-returns-in_err-first-in-RightChain
-value_of-returns-in_err-first-in-RightChain t c =
-    let h : Gives view (Err c.in_err-first-in-RightChain.field-0.0) (eval_expr (env_of c.args.scope) (expr_view c.args.expr.now))
-    = gives_as view (Err c.in_err-first-in-RightChain.field-0.0) (eval_expr (env_of c.args.scope) (expr_view c.args.expr.now)) (then_do (eval_expr (env_of c.args.scope) (expr_view c.deref-in-RightChain.result.now)) (λ v. right_on (env_of c.args.scope) v (map operand_view c.in-RightChain.rest))) (ap (λ e. eval_expr (env_of c.args.scope) (expr_view e)) c.in-RightChain.is ∙ ap (eval_expr (env_of c.args.scope)) (right_form c.in-RightChain.first c.in-RightChain.rest) ∙ right_is (env_of c.args.scope) (expr_view c.in-RightChain.first.value) (map operand_view c.in-RightChain.rest) ∙ ap (λ e. then_do (eval_expr (env_of c.args.scope) (expr_view e)) (λ v. right_on (env_of c.args.scope) v (map operand_view c.in-RightChain.rest))) (sym c.deref-in-RightChain.ensures))
-    (fault_then view view c.in_err-first-in-RightChain.field-0.0 (eval_expr (env_of c.args.scope) (expr_view c.deref-in-RightChain.result.now)) (λ v. right_on (env_of c.args.scope) v (map operand_view c.in-RightChain.rest)) c.in_err-first-in-RightChain.ensures) in
-    search (rules, h)
-
-pub value_of-returns-in_ok-first-in-RightChain : goal.value_of-returns-in_ok-first-in-RightChain
-value_of-returns-in_ok-first-in-RightChain t c =
-    gives_as view c.right_chain.result (eval_expr (env_of c.args.scope) (expr_view c.args.expr.now)) (right_on (env_of c.args.scope) (view c.in_ok-first-in-RightChain.first) (map operand_view c.in-RightChain.rest))
-    ((ap (λ e. eval_expr (env_of c.args.scope) (expr_view e)) c.in-RightChain.is ∙ ap (eval_expr (env_of c.args.scope)) (right_form c.in-RightChain.first c.in-RightChain.rest) ∙ right_is (env_of c.args.scope) (expr_view c.in-RightChain.first.value) (map operand_view c.in-RightChain.rest) ∙ ap (λ e. then_do (eval_expr (env_of c.args.scope) (expr_view e)) (λ v. right_on (env_of c.args.scope) v (map operand_view c.in-RightChain.rest))) (sym c.deref-in-RightChain.ensures)) ∙ ap (λ r. then_do r (λ v. right_on (env_of c.args.scope) v (map operand_view c.in-RightChain.rest))) c.in_ok-first-in-RightChain.ensures)
-    c.right_chain.ensures
-
 pub operate-returns : goal.operate-returns
 operate-returns t c =
     let o = c.args.operand.now in
@@ -213,11 +151,6 @@ text_of-parts-init t c =
     parts_begin (eval_parts (env_of c.args.scope) (parts_of (map part_view c.args.parts.now))) c.new-text.result c.new-text.ensures
     ∙ ap (λ ps. on_res (λ s. c.new-text.result ++ s) (eval_parts (env_of c.args.scope) (parts_of (map part_view ps)))) (sym c.as_slice-part-items.ensures)
 
-pub walk-returns : goal.walk-returns
-walk-returns t c =
-    let past : length c.as_slice-step-items.result.now ≤ c.steps.step-index = omega arith in
-    chain_ends (step_on (env_of c.args.scope)) step_view c.as_slice-step-items.result.now c.steps.step-index (view c.steps.value) (chain (step_on (env_of c.args.scope)) (Ok (view c.args.value)) (map step_view c.args.steps.now)) past c.steps.invariant
-
 pub left_chain-returns : goal.left_chain-returns
 left_chain-returns t c =
     let past : length c.as_slice-operand-items.result.now ≤ c.rest.operand-index = omega arith in
@@ -243,3 +176,115 @@ value_of-returns-in-Name t c =
     (ap (λ e. eval_expr env (expr_view e)) c.in-Name.is ∙ ap (eval_expr env) (name_form c.in-Name.name)
     ∙ ap (λ o. or_raise o NoVariable) (ap (λ k. lookup k env.variables) (sym c.as_str-in-Name.ensures) ∙ sym c.variable.ensures))
     c.found-in-Name.ensures
+
+pub walk-returns-in_err-at : goal.walk-returns-in_err-at
+walk-returns-in_err-at t c =
+    let total = chain (step_on (env_of c.args.scope)) (Ok (view c.args.from.now)) (map step_view c.args.steps.now) in
+    let h : Gives view (Err c.in_err-at.field-0.0) total
+    = chain_stops place_view view (step_on (env_of c.args.scope)) step_view c.as_slice-step-items.result.now c.steps.step-index c.step-item.result (place_view c.steps.at) c.in_err-at.field-0.0 total c.steps-test.true c.step-item.is c.steps.invariant c.in_err-at.ensures in
+    search (rules, h)
+
+pub walk-steps-preserved : goal.walk-steps-preserved
+walk-steps-preserved t c =
+    chain_on (step_on (env_of c.args.scope)) step_view c.as_slice-step-items.result.now c.steps.step-index c.step-item.result (place_view c.steps.at) (place_view c.in_ok-at.at) (chain (step_on (env_of c.args.scope)) (Ok (view c.args.from.now)) (map step_view c.args.steps.now)) c.steps-test.true c.step-item.is c.steps.invariant c.in_ok-at.ensures
+
+pub walk-returns : goal.walk-returns
+walk-returns t c =
+    let past : length c.as_slice-step-items.result.now ≤ c.steps.step-index = omega arith in
+    let total = chain (step_on (env_of c.args.scope)) (Ok (view c.args.from.now)) (map step_view c.args.steps.now) in
+    gives_as view c.copied.result total (Ok (place_view c.steps.at))
+    (chain_ends (step_on (env_of c.args.scope)) step_view c.as_slice-step-items.result.now c.steps.step-index (place_view c.steps.at) total past c.steps.invariant)
+    c.copied.ensures
+
+pub value_of-returns-in_err-from-in-Path : goal.value_of-returns-in_err-from-in-Path
+value_of-returns-in_err-from-in-Path t c =
+    let env = env_of c.args.scope in
+    let from = eval_expr env (expr_view c.deref-in-Path.result.now) in
+    let steps = map step_view c.in-Path.steps in
+    let fault = c.in_err-from-in-Path.field-0.0 in
+    let h : Gives view (Err fault) (eval_expr env (expr_view c.args.expr.now))
+    = gives_as view (Err fault) (eval_expr env (expr_view c.args.expr.now)) (chain (step_on env) from steps)
+    (along_path env c.args.expr.now c.deref-in-Path.result.now c.in-Path.value c.in-Path.steps c.in-Path.is c.deref-in-Path.ensures)
+    (chain_begins view view (step_on env) from steps fault c.in_err-from-in-Path.ensures) in
+    search (rules, h)
+
+pub value_of-returns-in-Some : goal.value_of-returns-in-Some
+value_of-returns-in-Some t c =
+    let env = env_of c.args.scope in
+    let steps = map step_view c.in-Path.steps in
+    gives_as view c.walk.result (eval_expr env (expr_view c.args.expr.now)) (chain (step_on env) (Ok (view c.in-Some.from.now)) steps)
+    (along_path env c.args.expr.now c.deref.result.now c.in-Path.value c.in-Path.steps c.in-Path.is c.deref.ensures
+    ∙ ap (λ r. chain (step_on env) r steps) c.in-Some.ensures)
+    c.walk.ensures
+
+pub value_of-returns-in_ok-from-in-Path : goal.value_of-returns-in_ok-from-in-Path
+value_of-returns-in_ok-from-in-Path t c =
+    let env = env_of c.args.scope in
+    let steps = map step_view c.in-Path.steps in
+    gives_as view c.walk-in-Path.result (eval_expr env (expr_view c.args.expr.now)) (chain (step_on env) (Ok (view c.in_ok-from-in-Path.from)) steps)
+    (along_path env c.args.expr.now c.deref-in-Path.result.now c.in-Path.value c.in-Path.steps c.in-Path.is c.deref-in-Path.ensures
+    ∙ ap (λ r. chain (step_on env) r steps) c.in_ok-from-in-Path.ensures)
+    c.walk-in-Path.ensures
+
+pub value_of-returns-in_err-value_of-in-LeftChain : goal.value_of-returns-in_err-value_of-in-LeftChain
+value_of-returns-in_err-value_of-in-LeftChain t c =
+    let env = env_of c.args.scope in
+    let first = eval_expr env (expr_view c.deref-in-LeftChain.result.now) in
+    let rest = map operand_view c.in-LeftChain.rest in
+    let fault = c.in_err-value_of-in-LeftChain.field-0.0 in
+    let h : Gives view (Err fault) (eval_expr env (expr_view c.args.expr.now))
+    = gives_as view (Err fault) (eval_expr env (expr_view c.args.expr.now)) (chain (operand_on env) first rest)
+    (along_left env c.args.expr.now c.deref-in-LeftChain.result.now c.in-LeftChain.first c.in-LeftChain.rest c.in-LeftChain.is c.deref-in-LeftChain.ensures)
+    (chain_begins view view (operand_on env) first rest fault c.in_err-value_of-in-LeftChain.ensures) in
+    search (rules, h)
+
+pub value_of-returns-in_ok-value_of-in-LeftChain : goal.value_of-returns-in_ok-value_of-in-LeftChain
+value_of-returns-in_ok-value_of-in-LeftChain t c =
+    let env = env_of c.args.scope in
+    let rest = map operand_view c.in-LeftChain.rest in
+    gives_as view c.left_chain.result (eval_expr env (expr_view c.args.expr.now)) (chain (operand_on env) (Ok (view c.in_ok-value_of-in-LeftChain.field-0)) rest)
+    (along_left env c.args.expr.now c.deref-in-LeftChain.result.now c.in-LeftChain.first c.in-LeftChain.rest c.in-LeftChain.is c.deref-in-LeftChain.ensures
+    ∙ ap (λ r. chain (operand_on env) r rest) c.in_ok-value_of-in-LeftChain.ensures)
+    c.left_chain.ensures
+
+pub value_of-returns-in_err-value_of-in-Pipes : goal.value_of-returns-in_err-value_of-in-Pipes
+value_of-returns-in_err-value_of-in-Pipes t c =
+    let env = env_of c.args.scope in
+    let first = eval_expr env (expr_view c.deref-in-Pipes.result.now) in
+    let rest = map call_view c.in-Pipes.calls in
+    let fault = c.in_err-value_of-in-Pipes.field-0.0 in
+    let h : Gives view (Err fault) (eval_expr env (expr_view c.args.expr.now))
+    = gives_as view (Err fault) (eval_expr env (expr_view c.args.expr.now)) (chain (call_on env) first rest)
+    (along_pipes env c.args.expr.now c.deref-in-Pipes.result.now c.in-Pipes.first c.in-Pipes.calls c.in-Pipes.is c.deref-in-Pipes.ensures)
+    (chain_begins view view (call_on env) first rest fault c.in_err-value_of-in-Pipes.ensures) in
+    search (rules, h)
+
+pub value_of-returns-in_ok-value_of-in-Pipes : goal.value_of-returns-in_ok-value_of-in-Pipes
+value_of-returns-in_ok-value_of-in-Pipes t c =
+    let env = env_of c.args.scope in
+    let rest = map call_view c.in-Pipes.calls in
+    gives_as view c.pipes.result (eval_expr env (expr_view c.args.expr.now)) (chain (call_on env) (Ok (view c.in_ok-value_of-in-Pipes.field-0)) rest)
+    (along_pipes env c.args.expr.now c.deref-in-Pipes.result.now c.in-Pipes.first c.in-Pipes.calls c.in-Pipes.is c.deref-in-Pipes.ensures
+    ∙ ap (λ r. chain (call_on env) r rest) c.in_ok-value_of-in-Pipes.ensures)
+    c.pipes.ensures
+
+pub value_of-returns-in_err-value_of-in-RightChain : goal.value_of-returns-in_err-value_of-in-RightChain
+value_of-returns-in_err-value_of-in-RightChain t c =
+    let env = env_of c.args.scope in
+    let first = eval_expr env (expr_view c.deref-in-RightChain.result.now) in
+    let rest = map operand_view c.in-RightChain.rest in
+    let fault = c.in_err-value_of-in-RightChain.field-0.0 in
+    let h : Gives view (Err fault) (eval_expr env (expr_view c.args.expr.now))
+    = gives_as view (Err fault) (eval_expr env (expr_view c.args.expr.now)) (then_do first (λ v. right_on env v rest))
+    (along_right env c.args.expr.now c.deref-in-RightChain.result.now c.in-RightChain.first c.in-RightChain.rest c.in-RightChain.is c.deref-in-RightChain.ensures)
+    (fault_then view view fault first (λ v. right_on env v rest) c.in_err-value_of-in-RightChain.ensures) in
+    search (rules, h)
+
+pub value_of-returns-in_ok-value_of-in-RightChain : goal.value_of-returns-in_ok-value_of-in-RightChain
+value_of-returns-in_ok-value_of-in-RightChain t c =
+    let env = env_of c.args.scope in
+    let rest = map operand_view c.in-RightChain.rest in
+    gives_as view c.right_chain.result (eval_expr env (expr_view c.args.expr.now)) (right_on env (view c.in_ok-value_of-in-RightChain.field-0) rest)
+    (along_right env c.args.expr.now c.deref-in-RightChain.result.now c.in-RightChain.first c.in-RightChain.rest c.in-RightChain.is c.deref-in-RightChain.ensures
+    ∙ ap (λ r. then_do r (λ v. right_on env v rest)) c.in_ok-value_of-in-RightChain.ensures)
+    c.right_chain.ensures

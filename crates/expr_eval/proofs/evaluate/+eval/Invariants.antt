@@ -4,7 +4,7 @@ use Rattle.ast_core.specs.ExprView.{exprs_view, parts_of, pairs_of}
 use Rattle.ast_core.specs.NamesIn.{part_view, pair_view, step_view, operand_view, call_view}
 use Rattle.doc_model.specs.Evaluation.{on_res, eval_exprs, eval_pairs, eval_parts}
 use Rattle.expr_eval.specs.Chains.{chain, operand_on, step_on, call_on, right_on, back, waiting_view, prepend}
-use Rattle.expr_eval.specs.Scope.{env_of}
+use Rattle.expr_eval.specs.Scope.{env_of, place_view}
 use Rattle.expr_eval.proofs.Keys.{pairs_into}
 use Rattle.expr_eval.proofs.evaluate.+eval.Given as goal
 
@@ -26,8 +26,8 @@ invariant-text_of-parts l =
 
 abbrev pub invariant-walk-steps : goal.invariant-walk-steps
 invariant-walk-steps l =
-    chain (step_on (env_of l.scope)) (Ok (view l.initial.value)) (map step_view l.steps)
-    ≡ chain (step_on (env_of l.scope)) (Ok (view l.value)) (map step_view (drop l.step-index l.step-items))
+    chain (step_on (env_of l.scope)) (Ok (view l.fn.from)) (map step_view l.steps)
+    ≡ chain (step_on (env_of l.scope)) (Ok (place_view l.at)) (map step_view (drop l.step-index l.step-items))
 
 abbrev pub invariant-left_chain-rest : goal.invariant-left_chain-rest
 invariant-left_chain-rest l =
