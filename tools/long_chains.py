@@ -17,7 +17,7 @@ import tempfile
 LENGTH = 100_000
 CHAINS = (
     ("a sum", "0" + "+1-1" * (LENGTH // 2) + "+7", "7"),
-    ("joined lists", "length(" + "[1]++" * LENGTH + "[1])", str(LENGTH + 1)),
+    ("joined lists", "length(" + "[]++" * LENGTH + "[1])", "1"),
     ("indexes", "is_nil(nil" + "[:a]" * LENGTH + ")", "true"),
     ("fields", "1 || @m" + ".a" * LENGTH, "1"),
     ("pipes", "0" + "|>max(5)" * LENGTH, "5"),
