@@ -74,9 +74,8 @@ fn outcome(alloc: Global, text: &str) -> Result<String, Fail> {
     }
 }
 
-// How many rows of a table come to what they say; and the first that does not, with what it comes to.
-fn checked(alloc: Global, table: &str) -> Result<(usize, String), Fail> {
-    let mut rows = 0;
+// The first row of a table that does not come to what it says, with what it comes to; or nothing.
+fn first_wrong(alloc: Global, table: &str) -> Result<String, Fail> {
     for row in table.lines() {
         let Some((text, expected)) = row.split_once("  =>  ") else {
             return Err("no row")?;
@@ -84,17 +83,15 @@ fn checked(alloc: Global, table: &str) -> Result<(usize, String), Fail> {
         let found = outcome(alloc, text)?;
         if found.as_str() != expected {
             let found = found.as_str();
-            return Ok((rows, format!(in alloc; "{row}, and not {found}")?));
+            return Ok(format!(in alloc; "{row}, and not {found}")?);
         }
-        rows += 1;
     }
-    Ok((rows, String::new(alloc)))
+    Ok(String::new(alloc))
 }
 
 #[test]
 fn texts_and_what_they_come_to(rt: HostRuntime) -> Result<(), Fail> {
     let alloc = rt.alloc();
-    let mut all = 0;
     for table in [
         LITERALS_AND_NAMES,
         OPERATORS,
@@ -102,11 +99,9 @@ fn texts_and_what_they_come_to(rt: HostRuntime) -> Result<(), Fail> {
         FUNCTIONS,
         REFUSED_TEXTS,
     ] {
-        let (rows, wrong) = checked(alloc, table)?;
+        let wrong = first_wrong(alloc, table)?;
         assert_eq!(rt; wrong.as_str(), "");
-        all += rows;
     }
-    assert_eq!(rt; all, 263);
     Ok(())
 }
 
