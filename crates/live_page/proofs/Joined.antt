@@ -1,10 +1,9 @@
 -- What a join leaves, and when it raises.
-use Rattle.std.proofs.Common.{◌≡◌, ℕ, List, [], Option, Some, None, Result, Ok, Err, IsErr, refl, sym, ap, ◌∙◌, subst}
+use Rattle.std.proofs.Common.{◌≡◌, ℕ, List, [], Option, Some, Ok, Err, IsErr, refl, ap, ◌∙◌}
 use Rattle.std.specs.Result.{is_err}
 use Rattle.serde_json.specs.Data.{Data}
 use Rattle.text_core.specs.declared.by_key.KeyValue.{KeyValue}
-use Rattle.value_core.specs.Value.{Value, Assigns, no_assigns}
-use Rattle.value_core.specs.View.{view, assigns_view}
+use Rattle.value_core.specs.Value.{Assigns, no_assigns}
 use Rattle.value_core.specs.declared.value.Value.{Value as Stored}
 use Rattle.view_api.specs.Effect.{Effect}
 use Rattle.view_api.specs.Meaning.{HandlerMeaning}
@@ -26,7 +25,6 @@ use Rattle.doc_model.specs.Effects.{Waiting, Rest, Applied, apply_effects, appli
 use Rattle.doc_model.specs.Trace.{Items}
 use Rattle.doc_model.specs.Process.{Route, Outcome, joined_page, rendered_page, turning_view}
 use Rattle.live_page.specs.declared.app.App.{App}
-use Rattle.live_page.specs.declared.page.LivePage.{LivePage}
 use Rattle.live_page.specs.World.{world_of}
 use Rattle.live_page.specs.Page.{Joins}
 use Rattle.live_page.specs.Fault.{of_view, of_render, of_effect}

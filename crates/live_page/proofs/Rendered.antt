@@ -1,7 +1,6 @@
 -- One rendering of a page of texts and interpolations.
-use Rattle.std.proofs.Common.{◌≡◌, ℕ, List, [], ◌∷◌, map, Option, Some, None, Ok, Err, refl, sym, ap, ◌∙◌, subst}
+use Rattle.std.proofs.Common.{◌≡◌, ℕ, List, [], ◌∷◌, map, Option, Some, Ok, Err, refl, ap, ◌∙◌}
 use Rattle.value_core.specs.Value.{Assigns, no_assigns}
-use Rattle.value_core.specs.declared.raise.Raise.{Raise}
 use Rattle.view_api.specs.Effect.{Effect}
 use Rattle.view_api.specs.Meaning.{HandlerMeaning}
 use Rattle.ast_core.specs.Syntax.{Expr, put}
@@ -15,11 +14,11 @@ use Rattle.doc_model.specs.Evaluation.{Res, then_do, on_res, both}
 use Rattle.doc_model.specs.Scopes.{Site}
 use Rattle.doc_model.specs.Trace.{Items, item, Item}
 use Rattle.doc_model.specs.Tracing.{trace}
-use Rattle.doc_model.specs.Effects.{Rest, Applied, apply_effects, views_of}
+use Rattle.doc_model.specs.Effects.{Rest, apply_effects, views_of}
 use Rattle.doc_model.specs.Once.{left, left_to}
 use Rattle.doc_model.specs.Run.{settled_stream, settled_components}
-use Rattle.doc_model.specs.Walk.{Views, Walk, Onward, Step, pass, pass_places, render_state, at_end_of_walk, plainly, in_turn}
-use Rattle.doc_model.specs.Process.{World, Page, Outcome, Turning, levels, scope_of_view, rendered_page, turning_view, view_turn}
+use Rattle.doc_model.specs.Walk.{Views, Walk, Onward, Step, pass, pass_places, at_end_of_walk, plainly, in_turn}
+use Rattle.doc_model.specs.Process.{Outcome, levels, scope_of_view, rendered_page, turning_view, view_turn}
 use Rattle.live_page.specs.declared.app.App.{App}
 use Rattle.live_page.specs.World.{world_of, site}
 use Rattle.live_page.specs.Page.{page_of}

@@ -1,41 +1,35 @@
 -- What a turn leaves, and when it raises.
-use Rattle.std.proofs.Common.{◌≡◌, ℕ, List, [], Option, Some, None, Result, Ok, Err, IsErr, refl, sym, ap, ◌∙◌, subst, option_map}
+use Rattle.std.proofs.Common.{◌≡◌, ℕ, List, Option, Some, Ok, Err, IsErr, refl, sym, ap, ◌∙◌, subst, option_map}
 use Rattle.std.specs.Result.{is_err}
 use Rattle.serde_json.specs.Data.{Data}
-use Rattle.text_core.specs.declared.by_key.KeyValue.{KeyValue}
 use Rattle.text_core.specs.Keyed.{lookup as kept}
 use Rattle.value_core.specs.Value.{Assigns}
 use Rattle.value_core.specs.View.{view, assigns_view}
-use Rattle.value_core.specs.declared.value.Value.{Value as Stored}
 use Rattle.value_core.specs.declared.raise.Raise.{Raise}
 use Rattle.view_api.specs.Effect.{Effect}
 use Rattle.view_api.specs.Meaning.{HandlerMeaning}
 use Rattle.slot_compile.specs.Template.{values_of}
 use Rattle.diff_tree.specs.declared.part.Part.{Part}
-use Rattle.diff_tree.specs.Parts.{part_data}
 use Rattle.assigns_track.specs.declared.tracked.Tracked.{Tracked}
 use Rattle.assigns_track.specs.Track.{present_of, settled_of}
 use Rattle.diff_render.specs.Met.{Meets, items_of}
-use Rattle.diff_render.specs.Renders.{HasSettled, present, Sends, Renders, lean_json}
+use Rattle.diff_render.specs.Renders.{HasSettled, present, Sends, Renders}
 use Rattle.diff_render.proofs.Items.{met_items}
 use Rattle.diff_render.proofs.Changed.{lookup_seen}
 use Rattle.diff_render.specs.declared.fault.RenderFault.{RenderFault}
 use Rattle.diff_render.specs.declared.fault.RenderFault.TheVariants as render
 use Rattle.effects_apply.specs.declared.rest.Rest.{Rest as Beside}
-use Rattle.effects_apply.specs.declared.fault.EffectFault.{EffectFault}
-use Rattle.effects_apply.specs.declared.fault.EffectFault.TheVariants as effect
-use Rattle.effects_apply.specs.Applied.{rest_view, CountsFree, applied_view, Becomes}
-use Rattle.doc_model.specs.Environment.{lookup, Stream}
+use Rattle.effects_apply.specs.Applied.{rest_view, CountsFree}
+use Rattle.doc_model.specs.Environment.{Stream}
 use Rattle.doc_model.specs.Evaluation.{Res, then_do, on_res}
 use Rattle.doc_model.specs.Effects.{Waiting, Rest, Applied, apply_effects}
 use Rattle.doc_model.specs.Trace.{Items}
 use Rattle.doc_model.specs.Process.{Page, Outcome, view_turn, rendered_page, turning_view}
 use Rattle.live_page.specs.declared.app.App.{App}
 use Rattle.live_page.specs.declared.page.LivePage.{LivePage}
-use Rattle.live_page.specs.declared.fault.PageFault.{PageFault}
 use Rattle.live_page.specs.World.{world_of}
 use Rattle.live_page.specs.Page.{page_of, StandsFor, Leaves, Turns}
-use Rattle.live_page.specs.Fault.{of_render, of_effect}
+use Rattle.live_page.specs.Fault.{of_render}
 use Rattle.live_page.proofs.Rendered.{turn_is, outcome_of}
 
 -- settled assigns have the values that they have now
