@@ -1,5 +1,5 @@
 -- How many members a map has.
-use Rattle.std.proofs.Common.{◌≡◌, ℕ, List, [], ◌∷◌, length, arith, String, Global, refl}
+use Rattle.std.proofs.Common.{◌≡◌, List, [], ◌∷◌, length, arith, String, Global, refl}
 use Rattle.serde_json.specs.View.{members_view}
 use Rattle.serde_json.specs.declared.value.Value.{Value}
 use Rattle.bundle_files.specs.Manifest.{members_count}

@@ -1,15 +1,15 @@
 -- The files that were read are a bundle where those of the folder are.
-use Rattle.std.proofs.Common.{◌≡◌, ◌≤◌, ◌<◌, ◌+◌, ◌==◌, ◌||◌, ◌++◌, ℕ, zero, suc, List, [], ◌∷◌, map, take, length, codes, Bool, true, false, cond, get_or, Option, Some, None, option_map, refl, arith, ap, sym, subst, ◌∙◌, nat_le}
+use Rattle.std.proofs.Common.{◌≡◌, ◌≤◌, ◌<◌, ◌+◌, ◌==◌, ◌++◌, ℕ, List, [], ◌∷◌, map, take, length, codes, Bool, true, false, cond, get_or, Option, Some, None, option_map, refl, arith, ap, sym, subst, ◌∙◌, nat_le}
 use Rattle.std.specs.Option.{option_and_then, IfSome, is_some}
 use Rattle.std.specs.Str.{bytes_eq}
 use Rattle.std.proofs.lemmas.Slice.Eq.{bytes_eq-Decides}
-use Rattle.std.proofs.lemmas.Bool.{lt-leb, le-leb, leb-true, leb-false}
+use Rattle.std.proofs.lemmas.Bool.{lt-leb, leb-true, leb-false}
 use Rattle.std.proofs.lemmas.List.{length-take, take_all, take_more, length-map}
 use Rattle.text_core.specs.Outside.{content_of, Holds}
 use Rattle.bundle_files.specs.Held.{AllHold}
-use Rattle.bundle_files.specs.Bundle.{small_file, bundle_of, bundle_with, bundle_from}
-use Rattle.bundle_files.specs.Manifest.{manifest_in}
-use Rattle.bundle_files.specs.declared.bundle.Bundle.{Bundle}
+use Rattle.bundle_files.specs.Bundle.{Bundle, small_file, template_in, bundle_of, bundle_with}
+use Rattle.template_reader.specs.Pieces.{Pieces}
+use Rattle.bundle_files.specs.Manifest.{Manifest, manifest_in}
 
 pub held_snoc : (fs files : List (List ℕ × List ℕ)) (f : List ℕ × List ℕ) → AllHold fs files → Holds f.0 1048576 f.1 fs → AllHold fs (files ++ f ∷ [])
 held_snoc fs [] f a h = (h, tt)
@@ -79,10 +79,13 @@ lengths fs files e = sym (length-map files (λ f. f.0)) ∙ (ap length e ∙ len
 cond_same : {X : Type 0} (b c : Bool) (x y z : X) → b ≡ c → x ≡ y → cond b x z ≡ cond c y z
 cond_same b c x y z e h = rw (e, h)
 
+abbrev with_template : Manifest → Pieces → Bundle
+with_template m t = record { template = t; mount = m.mount; events = m.events }
+
 same : (fs files : List (List ℕ × List ℕ)) → AllHold fs files → map (λ f. f.0) files ≡ map (λ f. f.0) fs → bundle_of files ≡ bundle_of fs
 same fs files a e = cond_same (length files == 2) (length fs == 2) _ _ None (ap (λ n. n == 2) (lengths fs files e))
     (and_then_same (bundle_with files) (bundle_with fs) _ _
-    (λ m. ap (option_and_then (bundle_from m.mount m.events)) (smalls (m.template ++ codes ".html.heex") fs files a e))
+    (λ m. ap (λ (o : Option (List ℕ)). option_map (with_template m) (option_and_then template_in o)) (smalls (m.template ++ codes ".html.heex") fs files a e))
     (ap (option_and_then manifest_in) (smalls (codes "bundle.json") fs files a e)))
 
 -- what was judged of the files that were read holds of the folder's

@@ -3,3 +3,4 @@ pub mod Manifests
 pub mod Held
 pub mod Texts
 pub mod Listed
+pub mod Items

@@ -1,6 +1,8 @@
+pub mod Steps
+pub mod StepsView
+pub mod StepReading
 pub mod Fault
-pub mod Held
-pub mod Amount
-pub mod Assigned
 pub mod Manifest
+pub mod ManifestView
+pub mod Held
 pub mod Bundle

@@ -1,24 +1,17 @@
--- What a manifest says: `{"version":1,"views":[{"path":"/","template":T,"mount":[STEP,..],"events":{N:[STEP,..],..}}]}`,
--- where a step is `["assign",NAME,E]`, and no other members; `events` may be absent. Mount gives numbers, and events
--- keep to what it assigns. Of members with equal names the last holds.
-use Rattle.std.specs.Prelude.{ℕ, ℤ, pos, ◌+◌, ◌-◌, ◌^◌, List, [], ◌∷◌, length, codes, Bool, true, false, not, ◌&&◌, ◌||◌, ◌==◌, nat_le, nat_lt, if◌then◌else◌, Option, Some, None, option_map, option_and_then, is_none}
+-- What a manifest says: `{"version":1,"views":[{"path":"/","template":T,"mount":[STEP,..],"events":{N:[STEP,..],..}}]}`
+-- and no other members; `events` may be absent. Of members with equal names the last holds.
+use Rattle.std.specs.Prelude.{ℕ, ◌+◌, List, [], ◌∷◌, codes, Bool, false, not, ◌&&◌, ◌||◌, ◌==◌, nat_le, if◌then◌else◌, Option, Some, None, option_map, option_and_then, is_none}
 use Rattle.std.specs.Option.{option_map_or}
 use Rattle.std.specs.List.{list_all}
 use Rattle.std.specs.Char.{is_ascii_digit}
-use Rattle.std.specs.Str.{bytes_eq, is_utf8}
-use Rattle.std.specs.Str.Parse.{digits_value}
-use Rattle.serde_json.specs.Data.{Data, Items, no_items, item, Members, no_members, member}
+use Rattle.std.specs.Str.{is_utf8}
+use Rattle.serde_json.specs.Data.{Data, Members, no_members, member}
 use Rattle.serde_json.specs.Read.{read}
-use Rattle.serde_json.specs.Find.{get, at, as_str, as_array, as_object, as_number, as_u64}
-use Rattle.slot_compile.specs.Name.{is_name}
+use Rattle.serde_json.specs.Find.{get, at, as_str, as_object, as_number, as_u64}
 use Rattle.text_core.specs.declared.by_key.KeyValue.{KeyValue}
 use Rattle.text_core.specs.Keyed.{entry}
-use Rattle.bundle_files.specs.declared.bundle.Amount.{Amount}
-use Rattle.bundle_files.specs.declared.bundle.Step.{Step}
-use Rattle.bundle_files.specs.declared.bundle.Step.TheVariants as step
-use Rattle.bundle_files.specs.declared.manifest.Manifest.{Manifest}
-use Rattle.bundle_files.specs.Amount.{amount_in}
-use Rattle.bundle_files.specs.Assigned.{all_constant, events_keep_to}
+use Rattle.bundle_files.specs.Steps.{Steps}
+use Rattle.bundle_files.specs.StepReading.{is_text, steps_at}
 
 -- a small letter, a digit or `_`
 abbrev pub goes_on_template : ℕ → Bool
@@ -28,14 +21,6 @@ goes_on_template b = (nat_le 97 b && nat_le b 122) || is_ascii_digit b || b == 9
 abbrev pub is_template_name : List ℕ → Bool
 is_template_name [] = false
 is_template_name (b ∷ bs) = not (is_ascii_digit b) && goes_on_template b && list_all goes_on_template bs
-
-abbrev pub is_text : List ℕ → Option (List ℕ) → Bool
-is_text s None = false
-is_text s (Some t) = bytes_eq t s
-
--- the text at a place of a list
-abbrev pub text_at : ℕ → Data → Option (List ℕ)
-text_at i d = option_and_then as_str (at i d)
 
 -- the text of a member
 abbrev pub text_of : List ℕ → Data → Option (List ℕ)
@@ -61,36 +46,16 @@ only_item d = if is_none (at 1 d) then at 0 d else None
 abbrev pub view_in : Data → Option Data
 view_in d = if (count_of d == 2) && is_one (option_and_then as_u64 (option_and_then as_number (get (codes "version") d))) then option_and_then only_item (get (codes "views") d) else None
 
-abbrev pub assign : List ℕ → Amount → Step
-assign name value = step.Assign name value
-
-abbrev pub assign_from : Option (List ℕ) → Option (List ℕ) → Option Step
-assign_from None e = None
-assign_from (Some n) None = None
-assign_from (Some n) (Some e) = if is_name n then option_map (assign n) (amount_in e) else None
-
--- `["assign",NAME,E]`
-abbrev pub step_in : Data → Option Step
-step_in d = if is_none (at 3 d) && is_text (codes "assign") (text_at 0 d) then assign_from (text_at 1 d) (text_at 2 d) else None
-
-abbrev pub steps_in : Items → Option (List Step)
-steps_in no_items = Some []
-steps_in (item d ds) = option_and_then (λ s. option_map (λ more. s ∷ more) (steps_in ds)) (step_in d)
-
 abbrev pub template_in : Data → Option (List ℕ)
 template_in d = option_and_then (λ t. if is_template_name t then Some t else None) (text_of (codes "template") d)
 
--- the steps of a list
-abbrev pub steps_at : Data → Option (List Step)
-steps_at d = option_and_then steps_in (as_array d)
-
 -- the steps of each event, by its name
-abbrev pub events_in : Members → Option (List (KeyValue (List Step)))
+abbrev pub events_in : Members → Option (List (KeyValue Steps))
 events_in no_members = Some []
 events_in (member name d ms) = option_and_then (λ steps. option_map (λ more. entry name steps ∷ more) (events_in ms)) (steps_at d)
 
 -- no events where the member is absent
-abbrev pub events_at : Option Data → Option (List (KeyValue (List Step)))
+abbrev pub events_at : Option Data → Option (List (KeyValue Steps))
 events_at None = Some []
 events_at (Some d) = option_and_then events_in (as_object d)
 
@@ -99,14 +64,16 @@ abbrev pub view_members : Option Data → ℕ
 view_members None = 3
 view_members (Some d) = 4
 
--- the manifest, where mount gives numbers and events keep to what it assigns
-abbrev pub closed : Manifest → Option Manifest
-closed m = if all_constant m.mount && events_keep_to m.mount m.events then Some m else None
+-- what a manifest says of its one view
+pub record Manifest : Type 0 where
+  pub template : List ℕ
+  pub mount : Steps
+  pub events : List (KeyValue Steps)
 
-abbrev pub manifest_from : List ℕ → Option (List Step) → Option (List (KeyValue (List Step))) → Option Manifest
+abbrev pub manifest_from : List ℕ → Option Steps → Option (List (KeyValue Steps)) → Option Manifest
 manifest_from t None es = None
 manifest_from t (Some s) None = None
-manifest_from t (Some s) (Some es) = closed (record { template = t; mount = s; events = es })
+manifest_from t (Some s) (Some es) = Some (record { template = t; mount = s; events = es })
 
 -- the manifest of a template, with the handlers that a view has
 abbrev pub handlers_in : List ℕ → Data → Option Manifest

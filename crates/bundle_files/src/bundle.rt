@@ -1,25 +1,22 @@
 //! What a bundle holds.
-use slot_compile::Compiled;
+use slot_compile::{Compiled, Formula};
 use text_core::{ByKey, Seq, Text};
 
-/// A whole number that a step gives; every number that is written out is at least 0.
-#[derive(Debug, Drop)]
-pub enum Amount {
-    /// The number itself.
-    Number(i64),
-    /// What the assign holds.
-    Assign(Text),
-    /// What the assign holds, and the number more.
-    Sum { assign: Text, number: i64 },
-    /// What the assign holds, and the number less.
-    Difference { assign: Text, number: i64 },
-}
-
 /// A step of a handler.
+#[cycle(step)]
 #[derive(Debug, Drop)]
 pub enum Step {
-    /// Gives an assign a value.
-    Assign { name: Text, value: Amount },
+    /// Gives an assign the value of an expression.
+    Assign {
+        name: Text,
+        value: Formula,
+    },
+    /// The first steps where the value is neither nil nor false, else the second.
+    When {
+        test: Formula,
+        yes: Seq<Step>,
+        no: Seq<Step>,
+    },
 }
 
 /// The steps of a handler, in the order in which they are done.
@@ -28,8 +25,7 @@ pub type Steps = Seq<Step>;
 /// The steps of each event that a view takes, in byte order of the events' names.
 pub type Events = ByKey<Steps>;
 
-/// A bundle: the template of its view, what the view does when it is mounted, and what it does at its events. The
-/// amounts of mount are numbers, and events read and assign only what mount assigns.
+/// A bundle: the template of its view, what the view does when it is mounted, and what it does at its events.
 #[derive(Debug, Drop)]
 pub struct Bundle {
     pub compiled: Compiled,

@@ -1,61 +1,44 @@
 //! The loader of bundles.
-ghost use Rattle.std.specs.Prelude.{◌≡◌, ◌≤◌, IfOk, IfSome, Some, None, Err};
+ghost use Rattle.std.specs.Prelude.{◌≡◌, ◌≤◌, IfOk, IfSome, Some, None, Err, option_map, option_and_then};
 ghost use Rattle.text_core.specs.Outside.{Rose};
-ghost use Rattle.slot_compile.specs.Reading.{template_of};
-ghost use Rattle.bundle_files.specs.Bundle.{nodes_in, bundle_from, bundle_with, bundle_of};
+ghost use Rattle.template_reader.specs.Pieces.{pieces_in};
+ghost use Rattle.bundle_files.specs.ManifestView.{manifest_view};
+ghost use Rattle.bundle_files.specs.Bundle.{bundle_view, small_file, template_in, bundle_with, bundle_of};
 
-use crate::assigned::all_assigned;
 use crate::files::{read_files, small_file};
 use crate::manifest::{Manifest, read_manifest};
-use crate::{Bundle, Events, LoadFault, Steps};
-use slot_compile::{Nodes, TemplateFault, compile, read_template};
+use crate::{Bundle, LoadFault};
+use slot_compile::Compiled;
 use std::alloc::Global;
 use std::str;
+use template_reader::read_template;
 use text_core::{Bytes, Folder, OutOfMemory, Text};
 
 // How many files a folder may have that is read at all.
 const MOST_FILES: usize = 256;
 
-fn read_nodes(alloc: Global, text: &str) -> Result<Option<Nodes>, OutOfMemory>
-    ensures { IfOk result (λ nodes. nodes ≡ template_of text.now) }
-{
-    match read_template(alloc, text) {
-        Ok(nodes) => Ok(Some(nodes)),
-        Err(TemplateFault::NotYet) => Ok(None),
-        Err(TemplateFault::OutOfMemory) => Err(OutOfMemory),
-    }
-}
-
-fn nodes_in(alloc: Global, bytes: &[u8]) -> Result<Option<Nodes>, OutOfMemory>
-    ensures { IfOk result (λ nodes. nodes ≡ nodes_in bytes.now) }
+// The template of bytes in UTF-8.
+fn template_in(alloc: Global, bytes: &[u8]) -> Result<Option<Compiled>, OutOfMemory>
+    ensures { IfOk result (λ c. option_map pieces_in c ≡ template_in bytes.now) }
 {
     match str::from_utf8(bytes) {
-        Ok(text) => read_nodes(alloc, text),
+        Ok(text) => read_template(alloc, text),
         Err(_) => Ok(None),
     }
 }
 
-// The bundle of what a view does and the source of its template.
-fn bundle_from(
+// The template of the file of that name.
+fn template_at(
     alloc: Global,
-    mount: Steps,
-    events: Events,
-    source: &[u8],
-) -> Result<Option<Bundle>, OutOfMemory>
-    ensures { IfOk result (λ bundle. bundle ≡ bundle_from mount events source.now) }
+    files: &[(Text, Bytes)],
+    name: &str,
+) -> Result<Option<Compiled>, OutOfMemory>
+    ensures { IfOk result (λ c. option_map pieces_in c ≡ option_and_then template_in (small_file name.now files.now)) }
 {
-    let Some(nodes) = nodes_in(alloc, source)? else {
-        return Ok(None);
-    };
-    let compiled = compile(alloc, nodes)?;
-    if !all_assigned(mount.as_slice(), compiled.places()) {
-        return Ok(None);
+    match small_file(files, name) {
+        Some(source) => template_in(alloc, source),
+        None => Ok(None),
     }
-    Ok(Some(Bundle {
-        compiled,
-        mount,
-        events,
-    }))
 }
 
 // The bundle of a manifest and the template that it names.
@@ -64,7 +47,7 @@ fn bundle_with(
     files: &[(Text, Bytes)],
     manifest: Manifest,
 ) -> Result<Option<Bundle>, OutOfMemory>
-    ensures { IfOk result (λ bundle. bundle ≡ bundle_with files.now manifest) }
+    ensures { IfOk result (λ b. option_map bundle_view b ≡ bundle_with files.now (manifest_view manifest)) }
 {
     let Manifest {
         template,
@@ -73,15 +56,19 @@ fn bundle_with(
     } = manifest;
     let mut name = template;
     name.push_str(".html.heex")?;
-    match small_file(files, name.as_str()) {
-        Some(source) => bundle_from(alloc, mount, events, source),
+    match template_at(alloc, files, name.as_str())? {
+        Some(compiled) => Ok(Some(Bundle {
+            compiled,
+            mount,
+            events,
+        })),
         None => Ok(None),
     }
 }
 
 // The bundle that the files are, or nothing where they are none.
 fn bundle_of(alloc: Global, files: &[(Text, Bytes)]) -> Result<Option<Bundle>, OutOfMemory>
-    ensures { IfOk result (λ bundle. bundle ≡ bundle_of files.now) }
+    ensures { IfOk result (λ b. option_map bundle_view b ≡ bundle_of files.now) }
 {
     if files.len() != 2 {
         return Ok(None);
@@ -99,7 +86,7 @@ fn bundle_of(alloc: Global, files: &[(Text, Bytes)]) -> Result<Option<Bundle>, O
 /// `Refused` where its files are no bundle. All files are read before one is judged, but none of
 /// a folder that has more than 256.
 pub fn load<F: Folder>(alloc: Global, folder: &mut F) -> Result<Bundle, LoadFault>
-    ensures bundle { IfOk result (λ b. IfSome (F.files folder.old) (λ fs. bundle_of fs ≡ Some b)) }
+    ensures bundle { IfOk result (λ b. IfSome (F.files folder.old) (λ fs. bundle_of fs ≡ Some (bundle_view b))) }
     ensures refused { result ≡ Err LoadFault.Refused → IfSome (F.files folder.old) (λ fs. bundle_of fs ≡ None) }
     ensures later { F.failed folder.old ≤ F.failed folder.new }
     ensures cause { result ≡ Err LoadFault.ReadFault → Rose (F.failed folder.old) (F.failed folder.new) }

@@ -1,17 +1,17 @@
 //! The reader of manifests.
 ghost use Rattle.std.specs.Prelude.{◌≡◌, IfOk, option_map, option_and_then, codes};
 ghost use Rattle.std.specs.List.{list_all};
-ghost use Rattle.serde_json.specs.View.{view, items_view, members_view};
+ghost use Rattle.serde_json.specs.View.{view, members_view};
 ghost use Rattle.serde_json.specs.Find.{get, as_number, as_u64};
-ghost use Rattle.bundle_files.specs.Manifest.{goes_on_template, is_template_name, is_text, text_at, text_of, count_of, is_one, only_item, view_in, step_in, steps_in, steps_at, events_in, events_at, view_members, closed, handlers_in, template_in, entry_in, manifest_of, manifest_in};
+ghost use Rattle.bundle_files.specs.StepsView.{events_view};
+ghost use Rattle.bundle_files.specs.ManifestView.{manifest_view};
+ghost use Rattle.bundle_files.specs.Manifest.{goes_on_template, is_template_name, text_of, count_of, is_one, only_item, view_in, events_in, events_at, view_members, handlers_in, template_in, entry_in, manifest_of, manifest_in};
 
-use crate::amount::amount_in;
-use crate::assigned::{all_constant, events_keep_to};
-use crate::{Events, Step, Steps};
+use crate::steps::{is_text, steps_at};
+use crate::{Events, Steps};
 use serde_json::{Map, Value};
-use slot_compile::is_name;
 use std::alloc::Global;
-use text_core::{ByKey, OutOfMemory, Seq, Text};
+use text_core::{ByKey, OutOfMemory, Text};
 
 /// What a manifest says of its one view.
 #[derive(Debug, Drop)]
@@ -19,21 +19,6 @@ pub struct Manifest {
     pub template: Text,
     pub mount: Steps,
     pub events: Events,
-}
-
-fn is_text(found: Option<&str>, text: &str) -> bool
-    ensures { result ≡ is_text text.now (option_map (λ x. x.now) found.entry) }
-{
-    match found {
-        Some(x) => x == text,
-        None => false,
-    }
-}
-
-fn text_at(value: &Value, i: usize) -> Option<&str>
-    ensures { option_map (λ x. x.now) result ≡ text_at i (view value.entry.now) }
-{
-    value.get(i).and_then(Value::as_str)
 }
 
 fn text_of<'a>(value: &'a Value, name: &str) -> Option<&'a str>
@@ -133,57 +118,8 @@ fn template_in(value: &Value) -> Option<&str>
     Some(name)
 }
 
-// A step `["assign",name,E]`.
-fn step_in(alloc: Global, value: &Value) -> Result<Option<Step>, OutOfMemory>
-    ensures { IfOk result (λ s. s ≡ step_in (view value.now)) }
-{
-    if value.get(3usize).is_some() {
-        return Ok(None);
-    }
-    if !is_text(text_at(value, 0), "assign") {
-        return Ok(None);
-    }
-    let Some(name) = text_at(value, 1) else {
-        return Ok(None);
-    };
-    let Some(amount) = text_at(value, 2) else {
-        return Ok(None);
-    };
-    if !is_name(name) {
-        return Ok(None);
-    }
-    let Some(value) = amount_in(alloc, amount)? else {
-        return Ok(None);
-    };
-    let name = Text::copy_of(alloc, name)?;
-    Ok(Some(Step::Assign { name, value }))
-}
-
-fn steps_in(alloc: Global, items: &[Value]) -> Result<Option<Steps>, OutOfMemory>
-    ensures { IfOk result (λ s. s ≡ steps_in (items_view items.now)) }
-{
-    let mut steps = Seq::new(alloc);
-    for item in items {
-        match step_in(alloc, item)? {
-            Some(step) => steps.push(step)?,
-            None => return Ok(None),
-        }
-    }
-    Ok(Some(steps))
-}
-
-// The steps of a list.
-fn steps_at(alloc: Global, value: &Value) -> Result<Option<Steps>, OutOfMemory>
-    ensures { IfOk result (λ s. s ≡ steps_at (view value.now)) }
-{
-    match value.as_array() {
-        Some(items) => steps_in(alloc, items.as_slice()),
-        None => Ok(None),
-    }
-}
-
 fn events_in(alloc: Global, members: &Map<String, Value>) -> Result<Option<Events>, OutOfMemory>
-    ensures { IfOk result (λ es. es ≡ events_in (members_view members.now.entries)) }
+    ensures { IfOk result (λ es. option_map events_view es ≡ events_in (members_view members.now.entries)) }
 {
     let mut events = ByKey::new(alloc);
     for (name, member) in members.iter() {
@@ -196,7 +132,7 @@ fn events_in(alloc: Global, members: &Map<String, Value>) -> Result<Option<Event
 }
 
 fn events_at(alloc: Global, found: Option<&Value>) -> Result<Option<Events>, OutOfMemory>
-    ensures { IfOk result (λ es. es ≡ events_at (option_map (λ v. view v.now) found.entry)) }
+    ensures { IfOk result (λ es. option_map events_view es ≡ events_at (option_map (λ v. view v.now) found.entry)) }
 {
     let Some(value) = found else {
         return Ok(Some(ByKey::new(alloc)));
@@ -217,26 +153,13 @@ fn view_members(events: Option<&Value>) -> usize
     }
 }
 
-// The manifest, where mount gives numbers and events keep to what it assigns.
-fn closed(manifest: Manifest) -> Option<Manifest>
-    ensures { result ≡ closed manifest }
-{
-    if !all_constant(manifest.mount.as_slice()) {
-        return None;
-    }
-    if !events_keep_to(manifest.mount.as_slice(), manifest.events.as_slice()) {
-        return None;
-    }
-    Some(manifest)
-}
-
 // The manifest of a template, with the handlers that a view has.
 fn handlers_in(
     alloc: Global,
     template: &str,
     value: &Value,
 ) -> Result<Option<Manifest>, OutOfMemory>
-    ensures { IfOk result (λ m. m ≡ handlers_in template.now (view value.now)) }
+    ensures { IfOk result (λ m. option_map manifest_view m ≡ handlers_in template.now (view value.now)) }
 {
     let Some(mount) = value.get("mount") else {
         return Ok(None);
@@ -248,7 +171,7 @@ fn handlers_in(
         return Ok(None);
     };
     let template = Text::copy_of(alloc, template)?;
-    Ok(closed(Manifest {
+    Ok(Some(Manifest {
         template,
         mount,
         events,
@@ -257,7 +180,7 @@ fn handlers_in(
 
 // What a view says.
 fn entry_in(alloc: Global, value: &Value) -> Result<Option<Manifest>, OutOfMemory>
-    ensures { IfOk result (λ m. m ≡ entry_in (view value.now)) }
+    ensures { IfOk result (λ m. option_map manifest_view m ≡ entry_in (view value.now)) }
 {
     if count_of(value) != view_members(value.get("events")) {
         return Ok(None);
@@ -272,7 +195,7 @@ fn entry_in(alloc: Global, value: &Value) -> Result<Option<Manifest>, OutOfMemor
 }
 
 fn manifest_of(alloc: Global, value: &Value) -> Result<Option<Manifest>, OutOfMemory>
-    ensures { IfOk result (λ m. m ≡ manifest_of (view value.now)) }
+    ensures { IfOk result (λ m. option_map manifest_view m ≡ manifest_of (view value.now)) }
 {
     match view_in(value) {
         Some(entry) => entry_in(alloc, entry),
@@ -282,7 +205,7 @@ fn manifest_of(alloc: Global, value: &Value) -> Result<Option<Manifest>, OutOfMe
 
 /// The manifest that the bytes spell, or nothing where they spell none.
 pub fn read_manifest(alloc: Global, bytes: &[u8]) -> Result<Option<Manifest>, OutOfMemory>
-    ensures { IfOk result (λ m. m ≡ manifest_in bytes.now) }
+    ensures { IfOk result (λ m. option_map manifest_view m ≡ manifest_in bytes.now) }
 {
     match Value::from_slice(alloc, bytes) {
         Ok(value) => manifest_of(alloc, &value),

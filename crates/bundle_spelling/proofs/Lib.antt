@@ -1,2 +1,1 @@
-pub mod Amounts
 pub mod Spelled

@@ -1,13 +1,14 @@
 -- What a process of a world of texts sends is JSON of frames.
-use Rattle.std.proofs.Common.{◌≡◌, ℕ, suc, ◌<◌, ◌^◌, List, [], ◌∷◌, length, Option, Some, None, is_some, Bool, true, false, ◌&&◌, if◌then◌else◌, refl, sym, ap, ◌∙◌, subst, codes}
+use Rattle.std.proofs.Common.{◌≡◌, ℕ, suc, ◌<◌, ◌^◌, List, [], ◌∷◌, ◌++◌, map, length, Option, Some, None, is_some, Bool, true, false, ◌&&◌, if◌then◌else◌, refl, sym, ap, ◌∙◌, subst, codes}
 use Rattle.serde_json.specs.Data.{string, array, object, put}
 use Rattle.diff_tree.specs.Tree.{text, node, Change, write}
 use Rattle.diff_tree.specs.Frame.{Frame, FrameBody, empty, rendered, changed, refusal, no_cids, push, closed, faulted, reference_json, event_of, payload_of, frame_json}
 use Rattle.diff_tree.specs.Spelling.{Pushed, with_events, with_components, components_json, changed_json, members_of, texts_json, tree_json, trees_json, changes_json, page_tree_json, page_diff_json}
+use Rattle.ast_core.specs.ExprView.{expr_view}
 use Rattle.ast_core.specs.Places.{cut}
-use Rattle.slot_compile.specs.declared.template.Node.{Node}
-use Rattle.slot_compile.specs.declared.template.Node.TheVariants as piece
-use Rattle.slot_compile.specs.Template.{places_of, later_statics, syntax_of}
+use Rattle.slot_compile.specs.declared.compiled.Compiled.{Compiled}
+use Rattle.slot_compile.specs.declared.compiled.Interpolation.{Interpolation}
+use Rattle.slot_compile.specs.Template.{values_of, syntax_of}
 use Rattle.slot_compile.proofs.Syntax.{cuts_syntax}
 use Rattle.wire_v2.specs.Message.{head_of}
 use Rattle.wire_v2.specs.FrameGrammar.{is_page, is_tree, is_body, is_frame}
@@ -36,13 +37,12 @@ BodyFits _ = Unit {0}
 
 -- ---- the whole tree
 
-later_len : (ns : List Node) → length (later_statics ns) ≡ length (places_of ns)
-later_len [] = refl
-later_len (piece.Text t ∷ ns) = later_len ns
-later_len (piece.Put n ∷ ns) = ap suc (later_len ns)
+one_more : (is : List Interpolation) (t : List ℕ) → length (map (λ i. i.before) is ++ t ∷ []) ≡ suc (length (map (λ i. expr_view i.value) is))
+one_more [] t = refl
+one_more (i ∷ is) t = ap suc (one_more is t)
 
-pub cut_len : (ns : List Node) → length (cut (syntax_of ns)) ≡ suc (length (places_of ns))
-cut_len ns = ap length (cuts_syntax ns).0 ∙ ap suc (later_len ns)
+pub cut_len : (c : Compiled) → length (cut (syntax_of c)) ≡ suc (length (values_of c))
+cut_len c = ap length (cuts_syntax c).0 ∙ one_more c.interpolations c.last
 
 whole_texts : (is : Items) → AreTexts is → TextTrees (whole_places is)
 whole_texts no_items h = tt

@@ -4,9 +4,8 @@ use Rattle.ast_core.specs.Places.{streams_in, Once}
 use Rattle.diff_tree.specs.Tree.{Tree, text, number, node, list, stream, held, Trees, no_trees, tree, show_value, show_values, weave}
 use Rattle.diff_tree.specs.Client.{PageTree, look}
 use Rattle.diff_tree.specs.Frame.{Frame, client_takes_all}
-use Rattle.slot_compile.specs.declared.template.Node.{Node}
-use Rattle.slot_compile.specs.declared.template.Node.TheVariants as piece
-use Rattle.slot_compile.specs.Template.{syntax_of}
+use Rattle.slot_compile.specs.declared.compiled.Interpolation.{Interpolation}
+use Rattle.slot_compile.specs.Template.{syntax_from}
 use Rattle.doc_model.specs.Process.{World, Page}
 use Rattle.doc_model.specs.Journal.{begin_standing, replay_journal, frames_from, spelled}
 use Rattle.doc_model.specs.Headline.{IsLinked, ClientFollows}
@@ -23,17 +22,16 @@ use Rattle.client_page.proofs.Sends.{AreSound, frames_sound}
 
 -- ---- a world of texts is linked
 
-no_streams : (ns : List Node) → streams_in (syntax_of ns) ≡ []
-no_streams [] = refl
-no_streams (piece.Text t ∷ ns) = no_streams ns
-no_streams (piece.Put n ∷ ns) = no_streams ns
+no_streams : (is : List Interpolation) (t : List ℕ) → streams_in (syntax_from is t) ≡ []
+no_streams [] t = refl
+no_streams (i ∷ is) t = no_streams is t
 
 once_none : (ss : List (List ℕ)) → ss ≡ [] → Once ss
 once_none ss h = subst Once (sym h) tt
 
 is_linked : (w : World) → IsTextWorld w → IsLinked w
 is_linked w texts = record {
-  of_view = λ v. once_none (streams_in (w.template_of v)) (ap streams_in (texts.template_is v) ∙ no_streams (texts.nodes v));
+  of_view = λ v. once_none (streams_in (w.template_of v)) (ap streams_in (texts.template_is v) ∙ no_streams (texts.templates v).interpolations (texts.templates v).last);
   of_module = λ m. once_none (streams_in (w.site.root m)) (ap (λ s. streams_in (s.root m)) texts.calls_nothing);
 }
 

@@ -1,45 +1,51 @@
 -- What places meet, one after the other.
-use Rattle.std.proofs.Common.{◌≡◌, ℕ, List, [], ◌∷◌, ◌++◌, map, Option, None, Ok, Err, false, refl, sym, ap, ◌∙◌}
-use Rattle.value_core.specs.Value.{Value, Assigns, no_assigns}
+use Rattle.std.proofs.Common.{◌≡◌, List, [], ◌∷◌, ◌++◌, map, Ok, Err, false, refl, sym, ap, ◌∙◌}
+use Rattle.value_core.specs.Value.{Assigns, no_assigns}
 use Rattle.value_core.specs.declared.raise.Raise.{Raise}
-use Rattle.ast_core.specs.Syntax.{no_nodes, any}
-use Rattle.slot_compile.specs.declared.template.Node.{Node}
-use Rattle.slot_compile.specs.Template.{places_of, put_assign}
+use Rattle.ast_core.specs.Syntax.{Expr, put, no_nodes, any}
+use Rattle.ast_core.specs.Free.{free_names}
+use Rattle.slot_compile.specs.declared.compiled.Compiled.{Compiled}
+use Rattle.slot_compile.specs.Template.{values_of}
 use Rattle.slot_compile.proofs.Syntax.{places_are_puts}
-use Rattle.doc_model.specs.Environment.{Env, lookup}
-use Rattle.doc_model.specs.Evaluation.{Res, both}
+use Rattle.text_core.specs.Escape.{escape_text}
+use Rattle.doc_model.specs.Environment.{Env, reading}
+use Rattle.doc_model.specs.Evaluation.{Res, then_do, both, on_res, eval_expr, printed}
 use Rattle.doc_model.specs.Scopes.{Site, Deeper}
-use Rattle.doc_model.specs.Trace.{Items, item, Item}
+use Rattle.doc_model.specs.Trace.{Items, item, Item, met_text}
 use Rattle.doc_model.specs.Tracing.{trace, trace_place, trace_places}
-use Rattle.diff_render.specs.Met.{Meets, item_of, items_of}
+use Rattle.doc_model.proofs.Names.{Agree, agree_same, agree_reading, eval_agrees}
+use Rattle.diff_render.specs.Met.{Meets, scope_of, item_of, items_of}
 
-pub one_place : (site : Site) (go : Deeper Items) (env : Env) (n : List ℕ) → trace_place site go env (put_assign n) ≡ item_of env.assigns n
-one_place site go env n = by (lookup n env.assigns) refl
-  where
-    by : (o : Option Value) → lookup n env.assigns ≡ o → trace_place site go env (put_assign n) ≡ item_of env.assigns n
-    by o is = refl
+-- a scope of the same assigns and of no variables
+pub agrees : (env : Env) (as' : Assigns) (e : Expr) → env.assigns ≡ as' → env.variables ≡ no_assigns → Agree env (scope_of as') (free_names e)
+agrees env as' e is none = agree_same env (scope_of as') (free_names e) is none
 
-all_places : (site : Site) (go : Deeper Items) (env : Env) (ns : List (List ℕ)) → trace_places site go env (map put_assign ns) ≡ items_of env.assigns ns
-all_places site go env [] = refl
-all_places site go env (n ∷ ns) = rw (one_place site go env n, all_places site go env ns) refl
+pub one_place : (site : Site) (go : Deeper Items) (env : Env) (as' : Assigns) (e : Expr) → env.assigns ≡ as' → env.variables ≡ no_assigns
+    → trace_place site go env (put e) ≡ item_of as' e
+one_place site go env as' e is none =
+    ap (λ r. on_res (λ t. met_text (reading env (free_names e)) (escape_text t)) (then_do r printed)) (eval_agrees e env (scope_of as') (agrees env as' e is none))
+    ∙ ap (λ vs. on_res (λ t. met_text vs (escape_text t)) (then_do (eval_expr (scope_of as') e) printed)) (agree_reading env (scope_of as') (free_names e) (agrees env as' e is none))
 
--- nodes meet what their places meet
-pub meets_items : (ns : List Node) (as' : Assigns) → Meets ns as' (items_of as' (places_of ns))
-meets_items ns as' site k env is = ap (trace_places site (trace site k) env) (places_are_puts ns) ∙ all_places site (trace site k) env (places_of ns) ∙ ap (λ bs. items_of bs (places_of ns)) is
+all_places : (site : Site) (go : Deeper Items) (env : Env) (as' : Assigns) (es : List Expr) → env.assigns ≡ as' → env.variables ≡ no_assigns
+    → trace_places site go env (map put es) ≡ items_of as' es
+all_places site go env as' [] is none = refl
+all_places site go env as' (e ∷ es) is none =
+    ap (λ r. both item r (trace_places site go env (map put es))) (one_place site go env as' e is none) ∙ ap (both item (item_of as' e)) (all_places site go env as' es is none)
+
+-- a template meets what its places meet
+pub meets_items : (c : Compiled) (as' : Assigns) → Meets c as' (items_of as' (values_of c))
+meets_items c as' site k env is none = ap (trace_places site (trace site k) env) (places_are_puts c) ∙ all_places site (trace site k) env as' (values_of c) is none
 
 -- somewhere to stand
 abbrev plain_site : Site
 plain_site = record { template = λ n. no_nodes; has_body = λ n. false; body = λ n. record { pattern = any; nodes = no_nodes }; root = λ m. no_nodes; mark = λ n t. t }
 
-abbrev plain_env : Assigns → Env
-plain_env as' = record { assigns = as'; variables = no_assigns; streams = None; components = [] }
-
--- and what nodes meet is what their places meet
-pub met_items : (ns : List Node) (as' : Assigns) (r : Res Items) → Meets ns as' r → items_of as' (places_of ns) ≡ r
-met_items ns as' r h = sym (meets_items ns as' plain_site 0 (plain_env as') refl) ∙ h plain_site 0 (plain_env as') refl
+-- and what a template meets is what its places meet
+pub met_items : (c : Compiled) (as' : Assigns) (r : Res Items) → Meets c as' r → items_of as' (values_of c) ≡ r
+met_items c as' r h = sym (meets_items c as' plain_site 0 (scope_of as') refl refl) ∙ h plain_site 0 (scope_of as') refl refl
 
 -- a raise anywhere is a raise of all
-pub raise_among : (as' : Assigns) (ns : List (List ℕ)) (n : List ℕ) (ms : List (List ℕ)) (e : Raise) → item_of as' n ≡ Err e → (k : Raise) × (items_of as' (ns ++ n ∷ ms) ≡ Err k)
+pub raise_among : (as' : Assigns) (ns : List Expr) (n : Expr) (ms : List Expr) (e : Raise) → item_of as' n ≡ Err e → (k : Raise) × (items_of as' (ns ++ n ∷ ms) ≡ Err k)
 raise_among as' [] n ms e h = (e, ap (λ r. both item r (items_of as' ms)) h)
 raise_among as' (m ∷ ns) n ms e h = by (item_of as' m) (raise_among as' ns n ms e h)
   where

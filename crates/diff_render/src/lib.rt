@@ -2,10 +2,12 @@
 #![tactic(auto)]
 
 mod fault;
+mod full;
 mod place;
 mod render;
 #[cfg(test)]
 mod tests;
 
 pub use fault::RenderFault;
+pub use full::page_text;
 pub use render::{first, next};

@@ -1,14 +1,16 @@
 //! The first rendering of a page, and each later one.
 ghost use Rattle.std.specs.Prelude.{◌≡◌, IfOk};
 ghost use Rattle.value_core.specs.View.{assigns_view};
+ghost use Rattle.slot_compile.specs.Template.{statics_of};
+ghost use Rattle.ast_core.specs.ExprView.{expr_view};
 ghost use Rattle.diff_render.specs.Renders.{FirstIsWhole, NextIsLean};
-ghost use Rattle.diff_render.specs.Places.{GivesPlaces, GivesChanges, whole_members};
+ghost use Rattle.diff_render.specs.Places.{values_in, GivesPlaces, GivesChanges, IsChanged, whole_members};
 
 use crate::RenderFault;
 use crate::place::{place_text, put_text};
 use assigns_track::Tracked;
 use diff_tree::{Part, PlaceValue};
-use slot_compile::Compiled;
+use slot_compile::{Compiled, Formula, Interpolation};
 use std::alloc::Global;
 use text_core::{ByKey, Names, OutOfMemory, Seq, Text};
 use value_core::Assigns;
@@ -18,51 +20,61 @@ use value_core::Assigns;
 pub fn first(alloc: Global, compiled: &Compiled, assigns: &Assigns) -> Result<Part, RenderFault>
     ensures { FirstIsWhole compiled.now (assigns_view assigns.now) result }
 {
-    let places = whole_places(alloc, compiled.places(), assigns)?;
-    let statics = names_copy(alloc, compiled.statics())?;
+    let places = whole_places(alloc, compiled.interpolations.as_slice(), assigns)?;
+    let statics = statics_copy(alloc, compiled)?;
     Ok(Part::new(Some(statics), places))
 }
 
-/// The lean diff of a template between the settled and the present assigns: exactly the places whose assigns differ,
-/// each with its text. It raises exactly where the rendering under the present assigns does.
+/// The lean diff of a template between the settled and the present assigns: exactly the places that read an assign
+/// that differs, each with its text. It raises exactly where the rendering under the present assigns does.
 pub fn next(alloc: Global, compiled: &Compiled, assigns: &Tracked) -> Result<Part, RenderFault>
     ensures { NextIsLean compiled.now assigns.now result }
 {
-    let places = changed_places(alloc, compiled.places(), assigns)?;
+    let places = changed_places(alloc, compiled.interpolations.as_slice(), assigns)?;
     Ok(Part::new(None, places))
 }
 
 // The text of each place, under its number.
 fn whole_places(
     alloc: Global,
-    names: &[Text],
+    interpolations: &[Interpolation],
     assigns: &Assigns,
 ) -> Result<ByKey<PlaceValue>, RenderFault>
-    ensures { GivesPlaces names.now (assigns_view assigns.now) (whole_members 0) result }
+    ensures { GivesPlaces (values_in interpolations.now) (assigns_view assigns.now) (whole_members 0) result }
 {
     let mut places = ByKey::new(alloc);
-    let mut left = names;
-    'places: while let [earlier @ .., name] = left {
-        let text = place_text(alloc, assigns, name.as_str())?;
+    let mut left = interpolations;
+    'places: while let [earlier @ .., place] = left {
+        let text = place_text(alloc, assigns, place.value.expr())?;
         put_text(alloc, &mut places, earlier.len(), text)?;
         left = earlier;
     }
     Ok(places)
 }
 
-// The text of each place whose assign differs, under its number.
+// Whether an assign that is read there differs.
+fn is_changed(assigns: &Tracked, value: &Formula) -> bool
+    ensures { IsChanged assigns.now (expr_view value.now) result }
+{
+    value
+        .reads()
+        .iter()
+        .any(|name| assigns.changed(name.as_str()))
+}
+
+// The text of each place that reads an assign that differs, under its number.
 fn changed_places(
     alloc: Global,
-    names: &[Text],
+    interpolations: &[Interpolation],
     assigns: &Tracked,
 ) -> Result<ByKey<PlaceValue>, RenderFault>
-    ensures { GivesChanges names.now assigns.now result }
+    ensures { GivesChanges (values_in interpolations.now) assigns.now result }
 {
     let mut places = ByKey::new(alloc);
-    let mut left = names;
-    'places: while let [earlier @ .., name] = left {
-        if assigns.changed(name.as_str()) {
-            let text = place_text(alloc, assigns.assigns(), name.as_str())?;
+    let mut left = interpolations;
+    'places: while let [earlier @ .., place] = left {
+        if is_changed(assigns, &place.value) {
+            let text = place_text(alloc, assigns.assigns(), place.value.expr())?;
             put_text(alloc, &mut places, earlier.len(), text)?;
         }
         left = earlier;
@@ -70,12 +82,13 @@ fn changed_places(
     Ok(places)
 }
 
-fn names_copy(alloc: Global, names: &[Text]) -> Result<Names, OutOfMemory>
-    ensures { IfOk result (λ copy. copy ≡ names.now) }
+fn statics_copy(alloc: Global, compiled: &Compiled) -> Result<Names, OutOfMemory>
+    ensures { IfOk result (λ copy. copy ≡ statics_of compiled.now) }
 {
     let mut copy = Seq::new(alloc);
-    for name in names {
-        copy.push(name.copy(alloc)?)?;
+    for interpolation in compiled.interpolations.as_slice() {
+        copy.push(interpolation.before.copy(alloc)?)?;
     }
+    copy.push(compiled.last.copy(alloc)?)?;
     Ok(copy)
 }

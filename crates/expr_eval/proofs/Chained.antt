@@ -35,11 +35,11 @@ pub chain_on : {X Y : Type 0} (f : Y → model.Value → Res model.Value) (g : X
 chain_on f g xs i x v w total h is so_far step =
     so_far ∙ ap (λ l. chain f (Ok v) (map g l)) (cons_at xs i x h is) ∙ ap (λ r. chain f r (map g (drop (i + 1) xs))) step
 
-pub chain_stops : {A X Y : Type 0} (to : A → model.Value) (f : Y → model.Value → Res model.Value) (g : X → Y) (xs : List X) (i : ℕ) (x : X) (v : model.Value) (fault : EvalFault) (total : Res model.Value) → i < length xs → x ≡ get_or xs i x
-    → total ≡ chain f (Ok v) (map g (drop i xs)) → Gives to (Err fault) (f (g x) v) → Gives to (Err fault) total
-chain_stops to f g xs i x v (Raised k) total h is so_far stop =
+pub chain_stops : {A B X Y : Type 0} (to : A → model.Value) (all : B → model.Value) (f : Y → model.Value → Res model.Value) (g : X → Y) (xs : List X) (i : ℕ) (x : X) (v : model.Value) (fault : EvalFault) (total : Res model.Value) → i < length xs → x ≡ get_or xs i x
+    → total ≡ chain f (Ok v) (map g (drop i xs)) → Gives to (Err fault) (f (g x) v) → Gives all (Err fault) total
+chain_stops to all f g xs i x v (Raised k) total h is so_far stop =
     so_far ∙ ap (λ l. chain f (Ok v) (map g l)) (cons_at xs i x h is) ∙ ap (λ r. chain f r (map g (drop (i + 1) xs))) stop ∙ chain_err f k (map g (drop (i + 1) xs))
-chain_stops to f g xs i x v OutOfMemory total h is so_far stop = tt
+chain_stops to all f g xs i x v OutOfMemory total h is so_far stop = tt
 
 pub chain_ends : {X Y : Type 0} (f : Y → model.Value → Res model.Value) (g : X → Y) (xs : List X) (i : ℕ) (v : model.Value) (total : Res model.Value) → length xs ≤ i
     → total ≡ chain f (Ok v) (map g (drop i xs)) → total ≡ Ok v

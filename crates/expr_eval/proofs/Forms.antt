@@ -25,6 +25,12 @@ view_of = fold-roll-Expr model.Expr Step Part (BinaryOp × model.Expr) (List ℕ
 pub text_form : (ps : List TextPart) → expr_view (form.Text ps) ≡ model.text_of (parts_of (map part_view ps))
 text_form ps = ap expr_view (sym (form.rolls-Text ps)) ∙ view_of (Expr-F.Text ps)
 
+pub assign_form : (n : List ℕ) → expr_view (form.Assign n) ≡ model.name (model.at n)
+assign_form n = ap expr_view (sym (form.rolls-Assign n)) ∙ view_of (Expr-F.Assign n)
+
+pub name_form : (n : List ℕ) → expr_view (form.Name n) ≡ model.name (model.var n)
+name_form n = ap expr_view (sym (form.rolls-Name n)) ∙ view_of (Expr-F.Name n)
+
 pub list_form : (es : List Expr) → expr_view (form.List es) ≡ model.list_of (exprs_view es)
 list_form es = ap expr_view (sym (form.rolls-List es)) ∙ view_of (Expr-F.List es)
 

@@ -4,3 +4,4 @@ pub mod Chained
 pub mod Keys
 pub mod Listed
 pub mod Forms
+pub mod Along

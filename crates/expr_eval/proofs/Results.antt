@@ -37,3 +37,9 @@ on_as f g (Err e) h = refl
 pub then_is : {A : Type 0} (r : Res A) → then_do r Ok ≡ r
 then_is (Ok a) = refl
 then_is (Err e) = refl
+
+-- a function of the answer
+pub gives_on : {A B C : Type 0} (f : A → B) (g : B → C) (x : Result A EvalFault) (r : Res B) → Gives f x r → Gives (λ a. g (f a)) x (on_res g r)
+gives_on f g (Ok a) r h = ap (on_res g) h
+gives_on f g (Err (Raised k)) r h = ap (on_res g) h
+gives_on f g (Err OutOfMemory) r h = tt

@@ -1,5 +1,6 @@
 -- Values, lists and maps as they are seen.
-use Rattle.std.proofs.Common.{◌≡◌, ℕ, suc, List, [], ◌∷◌, ◌++◌, length, map, reverse, Bool, true, false, Option, Some, None, Ok, Err, option_map, is_some, if◌then◌else◌, refl, sym, ap, ◌∙◌}
+use Rattle.std.proofs.Common.{◌≡◌, ℕ, suc, List, [], ◌∷◌, ◌++◌, length, map, reverse, Bool, true, false, Option, Some, None, Ok, Err, option_map, is_some, IfSome, if◌then◌else◌, refl, sym, ap, ◌∙◌}
+use denote.Ref.{Bor}
 use Rattle.std.specs.Str.{bytes_eq}
 use Rattle.std.specs.Ordering.{nat_cmp, match_ordering}
 use Rattle.std.specs.Cmp.Lexicographic.{slice_cmp}
@@ -15,10 +16,12 @@ use Rattle.value_core.specs.declared.value.Value.{Value}
 use Rattle.value_core.specs.declared.value.Value.TheVariants as form
 use Rattle.value_core.specs.declared.value.Value.TheOpen.{Value-F}
 use Rattle.value_core.specs.declared.value.Value.TheFolds.{fold-roll-Value}
+use Rattle.value_core.specs.declared.raise.Raise.{Raise}
 use Rattle.value_core.specs.declared.raise.Raise.TheVariants.{BadArgument}
 use Rattle.ast_core.specs.declared.operators.Function.{Function}
 use Rattle.doc_model.specs.Environment as scope
-use Rattle.doc_model.specs.Evaluation.{append_values, reverse_values, value_count, assign_count, is_some as is_there, eval_function}
+use Rattle.doc_model.specs.Evaluation.{append_values, reverse_values, value_count, assign_count, is_some as is_there, eval_function, Res, or_raise}
+use Rattle.expr_eval.specs.Scope.{seen}
 
 choose : (b : Bool) (v : Value) (o : Option Value) (m : Option model.Value) → option_map view o ≡ m → option_map view (if b then Some v else o) ≡ (if b then Some (view v) else m)
 choose true v o m h = refl
@@ -28,6 +31,30 @@ choose false v o m h = h
 pub lookup_seen : (k : List ℕ) (es : List (KeyValue Value)) → option_map view (lookup k es) ≡ scope.lookup k (assigns_view es)
 lookup_seen k [] = refl
 lookup_seen k (e ∷ es) = choose (bytes_eq k e.key) e.value _ _ (lookup_seen k es)
+
+abbrev pub first_of : {X : Type 0} → Option X → Option X → Option X
+first_of None o = o
+first_of (Some x) o = Some x
+
+stands : {X : Type 0} (b : Bool) (x : X) (o p q : Option X) → o ≡ first_of p q → (if b then Some x else o) ≡ first_of (if b then Some x else p) q
+stands true x o p q h = refl
+stands false x o p q h = h
+
+lookup_over : (k : List ℕ) (gs es : model.Assigns) → scope.lookup k (scope.over gs es) ≡ first_of (scope.lookup k gs) (scope.lookup k es)
+lookup_over k model.no_assigns es = refl
+lookup_over k (model.assign l v gs) es = stands (bytes_eq k l) v (scope.lookup k (scope.over gs es)) (scope.lookup k gs) (scope.lookup k es) (lookup_over k gs es)
+
+-- given entries stand over others
+pub over_seen : (k : List ℕ) (gs es : List (KeyValue Value)) (o : Option Value) → o ≡ lookup k gs
+    → scope.lookup k (scope.over (assigns_view gs) (assigns_view es)) ≡ first_of (option_map view o) (scope.lookup k (assigns_view es))
+over_seen k gs es o h =
+    lookup_over k (assigns_view gs) (assigns_view es)
+    ∙ ap (λ m. first_of m (scope.lookup k (assigns_view es))) (sym (lookup_seen k gs) ∙ ap (option_map view) (sym h))
+
+-- what is there is no raise
+pub placed : (o : Option (Bor Value)) (raise : Raise) (r : Res model.Value) → r ≡ or_raise (seen o) raise → IfSome o (λ v. r ≡ Ok (view v.now))
+placed None raise r h = tt
+placed (Some v) raise r h = h
 
 there : (o : Option Value) → is_there (option_map view o) ≡ is_some o
 there None = refl

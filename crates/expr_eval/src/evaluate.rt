@@ -7,14 +7,15 @@ ghost use Rattle.doc_model.specs.Environment.{Stream, Component};
 ghost use Rattle.doc_model.specs.Evaluation.{eval_expr, eval_exprs, eval_pairs, eval_parts, on_res};
 ghost use Rattle.expr_eval.specs.Chains.{chain, operand_on, step_on, call_on, right_on, part_text, prepend};
 ghost use Rattle.expr_eval.specs.Gives.{Gives, text_as_is};
-ghost use Rattle.expr_eval.specs.Scope.{env_of, env_with};
+ghost use Rattle.expr_eval.specs.Scope.{env_of, env_over, env_with, place_view};
 
 use crate::EvalFault;
 use crate::functions::call;
 use crate::judge::{decides, shallow, was_true};
-use crate::maps::{field, find, index};
+use crate::maps::{copied, field, found, index};
 use crate::operators::{binary, unary};
 use crate::right_chain::{Waiting, take_back};
+use crate::scope::{Scope, place};
 use crate::text::printed_out;
 use ast_core::{Expr, Exprs, Operand, Pairs, Parts, PathStep, PipeCall, TextPart};
 use std::alloc::Global;
@@ -32,76 +33,82 @@ pub fn eval(
     ensures { (streams : Option (List ℕ → Stream)) → (components : List Component)
         → Gives view result (eval_expr (env_with assigns.now variables.now streams components) (expr_view expr.now)) }
 {
-    value_of(alloc, expr, assigns, variables)
+    let given = ByKey::new(alloc);
+    eval_over(alloc, &given, assigns, variables, expr)
+}
+
+/// The value of an expression, where some given assigns stand over the others.
+pub fn eval_over(
+    alloc: Global,
+    given: &Assigns,
+    assigns: &Assigns,
+    variables: &Assigns,
+    expr: &Expr,
+) -> Result<Value, EvalFault>
+    ensures { (streams : Option (List ℕ → Stream)) → (components : List Component)
+        → Gives view result (eval_expr (env_over given.now assigns.now variables.now streams components) (expr_view expr.now)) }
+{
+    let scope = Scope {
+        given,
+        assigns,
+        variables,
+    };
+    value_of(alloc, expr, scope)
 }
 
 #[cycle(eval)]
-fn value_of(
-    alloc: Global,
-    expr: &Expr,
-    assigns: &Assigns,
-    variables: &Assigns,
-) -> Result<Value, EvalFault>
-    ensures { Gives view result (eval_expr (env_of assigns.now variables.now) (expr_view expr.now)) }
+fn value_of(alloc: Global, expr: &Expr, scope: Scope<'_>) -> Result<Value, EvalFault>
+    ensures { Gives view result (eval_expr (env_of scope.entry) (expr_view expr.now)) }
 {
     match expr {
         Expr::Number(n) => Ok(Value::Int(*n)),
-        Expr::Text(parts) => Ok(Value::Text(text_of(alloc, parts, assigns, variables)?)),
+        Expr::Text(parts) => Ok(Value::Text(text_of(alloc, parts, scope)?)),
         Expr::Atom(name) => Ok(Value::Atom(name.copy(alloc)?)),
         Expr::Nil => Ok(Value::Nil),
         Expr::Bool(b) => Ok(Value::Bool(*b)),
-        Expr::Assign(name) => find(alloc, assigns, name.as_str(), Raise::NoAssign),
-        Expr::Name(name) => find(alloc, variables, name.as_str(), Raise::NoVariable),
-        Expr::List(items) => {
-            let items = values_on(alloc, items, Seq::new(alloc), assigns, variables)?;
-            shallow(Value::List(items))
-        }
-        Expr::Tuple(items) => {
-            let items = values_on(alloc, items, Seq::new(alloc), assigns, variables)?;
-            shallow(Value::Tuple(items))
-        }
-        Expr::Map(pairs) => {
-            let entries = entries_of(alloc, pairs, assigns, variables)?;
-            shallow(Value::Map(entries))
-        }
+        Expr::Assign(name) => found(alloc, scope.assign(name.as_str()), Raise::NoAssign),
+        Expr::Name(name) => found(alloc, scope.variable(name.as_str()), Raise::NoVariable),
+        Expr::List(items) => shallow(Value::List(values_of(alloc, items, scope)?)),
+        Expr::Tuple(items) => shallow(Value::Tuple(values_of(alloc, items, scope)?)),
+        Expr::Map(pairs) => shallow(Value::Map(entries_of(alloc, pairs, scope)?)),
         Expr::Path { value, steps } => {
-            let value = value_of(alloc, value, assigns, variables)?;
-            walk(alloc, steps, value, assigns, variables)
+            if let Some(from) = place(value, scope) {
+                return walk(alloc, steps, from, scope);
+            }
+            let from = value_of(alloc, value, scope)?;
+            walk(alloc, steps, &from, scope)
         }
-        Expr::Unary { op, value } => {
-            let value = value_of(alloc, value, assigns, variables)?;
-            unary(*op, value)
-        }
+        Expr::Unary { op, value } => unary(*op, value_of(alloc, value, scope)?),
         Expr::LeftChain { first, rest } => {
-            let first = value_of(alloc, first, assigns, variables)?;
-            left_chain(alloc, rest, first, assigns, variables)
+            left_chain(alloc, rest, value_of(alloc, first, scope)?, scope)
         }
         Expr::RightChain { first, rest } => {
-            let first = value_of(alloc, first, assigns, variables)?;
-            right_chain(alloc, rest, first, assigns, variables)
+            right_chain(alloc, rest, value_of(alloc, first, scope)?, scope)
         }
         Expr::If { test, yes, no } => {
-            let test = value_of(alloc, test, assigns, variables)?;
-            if was_true(test) {
-                return value_of(alloc, yes, assigns, variables);
+            if was_true(value_of(alloc, test, scope)?) {
+                return value_of(alloc, yes, scope);
             }
             match no {
-                Some(no) => value_of(alloc, no, assigns, variables),
+                Some(no) => value_of(alloc, no, scope),
                 None => Ok(Value::Nil),
             }
         }
         Expr::Call {
             function,
             arguments,
-        } => {
-            let arguments = values_on(alloc, arguments, Seq::new(alloc), assigns, variables)?;
-            call(alloc, *function, arguments)
-        }
+        } => call(alloc, *function, values_of(alloc, arguments, scope)?),
         Expr::Pipes { first, calls } => {
-            let first = value_of(alloc, first, assigns, variables)?;
-            pipes(alloc, calls, first, assigns, variables)
+            pipes(alloc, calls, value_of(alloc, first, scope)?, scope)
         }
     }
+}
+
+#[cycle(eval)]
+fn values_of(alloc: Global, exprs: &Exprs, scope: Scope<'_>) -> Result<Values, EvalFault>
+    ensures { Gives values_view result (eval_exprs (env_of scope.entry) (exprs_view exprs.now)) }
+{
+    values_on(alloc, exprs, Seq::new(alloc), scope)
 }
 
 // The values of expressions, behind others.
@@ -110,14 +117,13 @@ fn values_on(
     alloc: Global,
     exprs: &Exprs,
     values: Values,
-    assigns: &Assigns,
-    variables: &Assigns,
+    scope: Scope<'_>,
 ) -> Result<Values, EvalFault>
-    ensures { Gives values_view result (prepend (map view values) (eval_exprs (env_of assigns.now variables.now) (exprs_view exprs.now))) }
+    ensures { Gives values_view result (prepend (map view values) (eval_exprs (env_of scope.entry) (exprs_view exprs.now))) }
 {
     let mut values = values;
     'exprs: for expr in exprs.as_slice() {
-        let value = value_of(alloc, expr, assigns, variables)?;
+        let value = value_of(alloc, expr, scope)?;
         values.push(value)?;
     }
     Ok(values)
@@ -125,89 +131,73 @@ fn values_on(
 
 // The entries of a map: of equal keys the last holds.
 #[cycle(eval)]
-fn entries_of(
-    alloc: Global,
-    pairs: &Pairs,
-    assigns: &Assigns,
-    variables: &Assigns,
-) -> Result<Assigns, EvalFault>
-    ensures { Gives assigns_view result (eval_pairs (env_of assigns.now variables.now) (pairs_of (map pair_view pairs.now))) }
+fn entries_of(alloc: Global, pairs: &Pairs, scope: Scope<'_>) -> Result<Assigns, EvalFault>
+    ensures { Gives assigns_view result (eval_pairs (env_of scope.entry) (pairs_of (map pair_view pairs.now))) }
 {
     let mut entries = ByKey::new(alloc);
     'pairs: for pair in pairs.as_slice() {
-        let value = value_of(alloc, &pair.value, assigns, variables)?;
+        let value = value_of(alloc, &pair.value, scope)?;
         entries.insert(pair.key.copy(alloc)?, value)?;
     }
     Ok(entries)
 }
 
 #[cycle(eval)]
-fn text_of(
-    alloc: Global,
-    parts: &Parts,
-    assigns: &Assigns,
-    variables: &Assigns,
-) -> Result<Text, EvalFault>
-    ensures { Gives text_as_is result (eval_parts (env_of assigns.now variables.now) (parts_of (map part_view parts.now))) }
+fn text_of(alloc: Global, parts: &Parts, scope: Scope<'_>) -> Result<Text, EvalFault>
+    ensures { Gives text_as_is result (eval_parts (env_of scope.entry) (parts_of (map part_view parts.now))) }
 {
     let mut text = Text::new(alloc);
     'parts: for part in parts.as_slice() {
-        let more = part_of(alloc, part, assigns, variables)?;
+        let more = part_of(alloc, part, scope)?;
         text.push_str(more.as_str())?;
     }
     Ok(text)
 }
 
 #[cycle(eval)]
-fn part_of(
-    alloc: Global,
-    part: &TextPart,
-    assigns: &Assigns,
-    variables: &Assigns,
-) -> Result<Text, EvalFault>
-    ensures { Gives text_as_is result (part_text (env_of assigns.now variables.now) (part_view part.now)) }
+fn part_of(alloc: Global, part: &TextPart, scope: Scope<'_>) -> Result<Text, EvalFault>
+    ensures { Gives text_as_is result (part_text (env_of scope.entry) (part_view part.now)) }
 {
     match part {
         TextPart::Plain(text) => Ok(text.copy(alloc)?),
         TextPart::Put(expr) => {
-            let value = value_of(alloc, expr, assigns, variables)?;
+            let value = value_of(alloc, expr, scope)?;
             printed_out(alloc, value)
         }
     }
 }
 
+// A copy of the value that the steps lead to.
 #[cycle(eval)]
 fn walk(
     alloc: Global,
     steps: &Seq<PathStep>,
-    value: Value,
-    assigns: &Assigns,
-    variables: &Assigns,
+    from: &Value,
+    scope: Scope<'_>,
 ) -> Result<Value, EvalFault>
-    ensures { Gives view result (chain (step_on (env_of assigns.now variables.now)) (Ok (view value)) (map step_view steps.now)) }
+    ensures { Gives view result (chain (step_on (env_of scope.entry)) (Ok (view from.now)) (map step_view steps.now)) }
 {
-    let mut value = value;
+    let mut at = Some(from);
     'steps: for step in steps.as_slice() {
-        value = go_into(alloc, step, value, assigns, variables)?;
+        at = go_into(alloc, step, at, scope)?;
     }
-    Ok(value)
+    copied(alloc, at)
 }
 
 #[cycle(eval)]
-fn go_into(
+fn go_into<'a>(
     alloc: Global,
     step: &PathStep,
-    value: Value,
-    assigns: &Assigns,
-    variables: &Assigns,
-) -> Result<Value, EvalFault>
-    ensures { Gives view result (step_on (env_of assigns.now variables.now) (step_view step.now) (view value)) }
+    at: Option<&'a Value>,
+    scope: Scope<'_>,
+) -> Result<Option<&'a Value>, EvalFault>
+    ensures { Gives place_view result (step_on (env_of scope.entry) (step_view step.now) (place_view at.entry)) }
 {
     match step {
-        PathStep::Field(key) => field(alloc, value, key.as_str()),
+        PathStep::Field(key) => field(at, key.as_str()),
         PathStep::Index(expr) => {
-            let key = value_of(alloc, expr, assigns, variables)?;
-            index(alloc, value, key)
+            let key = value_of(alloc, expr, scope)?;
+            index(at, key)
         }
     }
 }
@@ -217,14 +207,13 @@ fn left_chain(
     alloc: Global,
     rest: &Seq<Operand>,
     first: Value,
-    assigns: &Assigns,
-    variables: &Assigns,
+    scope: Scope<'_>,
 ) -> Result<Value, EvalFault>
-    ensures { Gives view result (chain (operand_on (env_of assigns.now variables.now)) (Ok (view first)) (map operand_view rest.now)) }
+    ensures { Gives view result (chain (operand_on (env_of scope.entry)) (Ok (view first)) (map operand_view rest.now)) }
 {
     let mut value = first;
     'rest: for operand in rest.as_slice() {
-        value = operate(alloc, operand, value, assigns, variables)?;
+        value = operate(alloc, operand, value, scope)?;
     }
     Ok(value)
 }
@@ -234,15 +223,14 @@ fn operate(
     alloc: Global,
     operand: &Operand,
     left: Value,
-    assigns: &Assigns,
-    variables: &Assigns,
+    scope: Scope<'_>,
 ) -> Result<Value, EvalFault>
-    ensures { Gives view result (operand_on (env_of assigns.now variables.now) (operand_view operand.now) (view left)) }
+    ensures { Gives view result (operand_on (env_of scope.entry) (operand_view operand.now) (view left)) }
 {
     if decides(operand.op, &left)? {
         return Ok(left);
     }
-    let right = value_of(alloc, &operand.value, assigns, variables)?;
+    let right = value_of(alloc, &operand.value, scope)?;
     binary(operand.op, left, right)
 }
 
@@ -252,10 +240,9 @@ fn right_chain(
     alloc: Global,
     rest: &Seq<Operand>,
     first: Value,
-    assigns: &Assigns,
-    variables: &Assigns,
+    scope: Scope<'_>,
 ) -> Result<Value, EvalFault>
-    ensures { Gives view result (right_on (env_of assigns.now variables.now) (view first) (map operand_view rest.now)) }
+    ensures { Gives view result (right_on (env_of scope.entry) (view first) (map operand_view rest.now)) }
 {
     let mut waiting = Seq::new(alloc);
     let mut last = first;
@@ -263,7 +250,7 @@ fn right_chain(
         if decides(operand.op, &last)? {
             return take_back(waiting, last);
         }
-        let right = value_of(alloc, &operand.value, assigns, variables)?;
+        let right = value_of(alloc, &operand.value, scope)?;
         let op = operand.op;
         waiting.push(Waiting { op, left: last })?;
         last = right;
@@ -276,14 +263,13 @@ fn pipes(
     alloc: Global,
     calls: &Seq<PipeCall>,
     first: Value,
-    assigns: &Assigns,
-    variables: &Assigns,
+    scope: Scope<'_>,
 ) -> Result<Value, EvalFault>
-    ensures { Gives view result (chain (call_on (env_of assigns.now variables.now)) (Ok (view first)) (map call_view calls.now)) }
+    ensures { Gives view result (chain (call_on (env_of scope.entry)) (Ok (view first)) (map call_view calls.now)) }
 {
     let mut value = first;
     'calls: for pipe in calls.as_slice() {
-        value = call_with(alloc, pipe, value, assigns, variables)?;
+        value = call_with(alloc, pipe, value, scope)?;
     }
     Ok(value)
 }
@@ -293,13 +279,12 @@ fn call_with(
     alloc: Global,
     pipe: &PipeCall,
     first: Value,
-    assigns: &Assigns,
-    variables: &Assigns,
+    scope: Scope<'_>,
 ) -> Result<Value, EvalFault>
-    ensures { Gives view result (call_on (env_of assigns.now variables.now) (call_view pipe.now) (view first)) }
+    ensures { Gives view result (call_on (env_of scope.entry) (call_view pipe.now) (view first)) }
 {
     let mut given = Seq::new(alloc);
     given.push(first)?;
-    let arguments = values_on(alloc, &pipe.arguments, given, assigns, variables)?;
+    let arguments = values_on(alloc, &pipe.arguments, given, scope)?;
     call(alloc, pipe.function, arguments)
 }

@@ -17,7 +17,7 @@ use value_core::{Raise, Value, Values, depth};
 const MOST_LEVELS: u32 = 100;
 
 /// All but nil and false.
-pub(crate) fn is_true(value: &Value) -> bool
+pub fn is_true(value: &Value) -> bool
     ensures { result ≡ is_true_value (view value.now) }
 {
     match value {

@@ -10,9 +10,11 @@ mod lists;
 mod maps;
 mod operators;
 mod right_chain;
+mod scope;
 #[cfg(test)]
 mod tests;
 mod text;
 
-pub use evaluate::eval;
+pub use evaluate::{eval, eval_over};
 pub use fault::EvalFault;
+pub use judge::is_true;

@@ -1,71 +1,98 @@
 //! The entries of maps, and of the names in scope.
-ghost use Rattle.std.specs.Prelude.{◌≡◌, ℕ, List, IfOk};
+ghost use Rattle.std.specs.Prelude.{◌≡◌, ℕ, List, Ok};
 ghost use Rattle.value_core.specs.Value.{nil};
 ghost use Rattle.value_core.specs.View.{view, assigns_view};
+ghost use Rattle.value_core.specs.declared.raise.Raise.TheVariants as raise;
 ghost use Rattle.doc_model.specs.Environment.{lookup as lookup_in};
 ghost use Rattle.doc_model.specs.Evaluation.{or_raise, on_res, or_value, key_of as key_in, field_of, index_of, entry_at, is_some as is_there};
 ghost use Rattle.expr_eval.specs.Gives.{Gives, truth_as_is};
+ghost use Rattle.expr_eval.specs.Scope.{seen, place_view};
 
 use crate::EvalFault;
 use crate::judge::key_of;
 use std::alloc::Global;
-use text_core::OutOfMemory;
 use value_core::{Assigns, Raise, Value, copy};
 
-/// The value at a key.
-pub(crate) fn find(
-    alloc: Global,
-    entries: &Assigns,
-    key: &str,
-    absent: Raise,
-) -> Result<Value, EvalFault>
-    ensures { Gives view result (or_raise (lookup_in key.now (assigns_view entries.now)) absent) }
+/// A copy of a value, where there is one.
+pub(crate) fn found(alloc: Global, value: Option<&Value>, absent: Raise) -> Result<Value, EvalFault>
+    ensures { Gives view result (or_raise (seen value.entry) absent) }
 {
-    match entries.get(key) {
+    match value {
         Some(value) => Ok(copy(alloc, value)?),
         None => Err(EvalFault::Raised(absent)),
     }
 }
 
-/// `m.k`
-pub(crate) fn field(alloc: Global, value: Value, key: &str) -> Result<Value, EvalFault>
-    ensures { Gives view result (field_of key.now (view value)) }
+/// A copy of what a path has come to.
+pub(crate) fn copied(alloc: Global, at: Option<&Value>) -> Result<Value, EvalFault>
+    ensures { Gives view result (Ok (place_view at.entry)) }
 {
-    field_in(alloc, &value, key)
+    match at {
+        Some(value) => Ok(copy(alloc, value)?),
+        None => Ok(Value::Nil),
+    }
 }
 
-fn field_in(alloc: Global, value: &Value, key: &str) -> Result<Value, EvalFault>
-    ensures { Gives view result (field_of key.now (view value.now)) }
+/// `m.k`, where it stands.
+pub(crate) fn field<'a>(at: Option<&'a Value>, key: &str) -> Result<Option<&'a Value>, EvalFault>
+    ensures { Gives place_view result (field_of key.now (place_view at.entry)) }
+{
+    match at {
+        Some(value) => field_in(value, key),
+        None => Err(EvalFault::Raised(Raise::BadArgument)),
+    }
+}
+
+fn field_in<'a>(value: &'a Value, key: &str) -> Result<Option<&'a Value>, EvalFault>
+    ensures { Gives place_view result (field_of key.now (view value.now)) }
 {
     match value {
-        Value::Map(entries) => find(alloc, entries, key, Raise::NoKey),
+        Value::Map(entries) => entry(entries, key),
         _ => Err(EvalFault::Raised(Raise::BadArgument)),
     }
 }
 
-/// `m[k]`
-pub(crate) fn index(alloc: Global, value: Value, key: Value) -> Result<Value, EvalFault>
-    ensures { Gives view result (index_of (view value) (view key)) }
+fn entry<'a>(entries: &'a Assigns, key: &str) -> Result<Option<&'a Value>, EvalFault>
+    ensures { Gives place_view result (or_raise (lookup_in key.now (assigns_view entries.now)) raise.NoKey) }
 {
-    index_in(alloc, &value, &key)
+    match entries.get(key) {
+        Some(value) => Ok(Some(value)),
+        None => Err(EvalFault::Raised(Raise::NoKey)),
+    }
 }
 
-fn index_in(alloc: Global, value: &Value, key: &Value) -> Result<Value, EvalFault>
-    ensures { Gives view result (index_of (view value.now) (view key.now)) }
+/// `m[k]`, where it stands: nothing stands for nil.
+pub(crate) fn index<'a>(at: Option<&'a Value>, key: Value) -> Result<Option<&'a Value>, EvalFault>
+    ensures { Gives place_view result (index_of (place_view at.entry) (view key)) }
+{
+    index_by(at, &key)
+}
+
+fn index_by<'a>(at: Option<&'a Value>, key: &Value) -> Result<Option<&'a Value>, EvalFault>
+    ensures { Gives place_view result (index_of (place_view at.entry) (view key.now)) }
+{
+    match at {
+        Some(value) => index_in(value, key),
+        None => nil_at(key),
+    }
+}
+
+fn index_in<'a>(value: &'a Value, key: &Value) -> Result<Option<&'a Value>, EvalFault>
+    ensures { Gives place_view result (index_of (view value.now) (view key.now)) }
 {
     match value {
-        Value::Map(entries) => entry_or(alloc, entries, key, &Value::Nil),
+        Value::Map(entries) => entry_or_none(entries, key),
         Value::Nil => nil_at(key),
         _ => Err(EvalFault::Raised(Raise::BadArgument)),
     }
 }
 
 // Nil has nil at every key.
-fn nil_at(key: &Value) -> Result<Value, EvalFault>
-    ensures { Gives view result (on_res (λ (k : List ℕ). nil) (key_in (view key.now))) }
+fn nil_at<'a>(key: &Value) -> Result<Option<&'a Value>, EvalFault>
+    ensures { Gives place_view result (on_res (λ (k : List ℕ). nil) (key_in (view key.now))) }
 {
     match key_of(key) {
-        Some(_) => Ok(Value::Nil),
+        Some(_) => Ok(None),
         None => Err(EvalFault::Raised(Raise::BadArgument)),
     }
 }
@@ -80,12 +107,12 @@ pub(crate) fn get(
     ensures { Gives view result (on_res (or_value (view default.now)) (entry_at (view map.now) (view key.now))) }
 {
     match map {
-        Value::Map(entries) => entry_or(alloc, entries, key, default),
+        Value::Map(entries) => copy_or(alloc, entries, key, default),
         _ => Err(EvalFault::Raised(Raise::BadArgument)),
     }
 }
 
-fn entry_or(
+fn copy_or(
     alloc: Global,
     entries: &Assigns,
     key: &Value,
@@ -93,23 +120,18 @@ fn entry_or(
 ) -> Result<Value, EvalFault>
     ensures { Gives view result (on_res (λ k. or_value (view default.now) (lookup_in k (assigns_view entries.now))) (key_in (view key.now))) }
 {
-    match key_of(key) {
-        Some(key) => Ok(value_or(alloc, entries, key, default)?),
-        None => Err(EvalFault::Raised(Raise::BadArgument)),
+    match entry_or_none(entries, key)? {
+        Some(value) => Ok(copy(alloc, value)?),
+        None => Ok(copy(alloc, default)?),
     }
 }
 
-fn value_or(
-    alloc: Global,
-    entries: &Assigns,
-    key: &str,
-    default: &Value,
-) -> Result<Value, OutOfMemory>
-    ensures { IfOk result (λ v. view v ≡ or_value (view default.now) (lookup_in key.now (assigns_view entries.now))) }
+fn entry_or_none<'a>(entries: &'a Assigns, key: &Value) -> Result<Option<&'a Value>, EvalFault>
+    ensures { Gives seen result (on_res (λ k. lookup_in k (assigns_view entries.now)) (key_in (view key.now))) }
 {
-    match entries.get(key) {
-        Some(value) => copy(alloc, value),
-        None => copy(alloc, default),
+    match key_of(key) {
+        Some(key) => Ok(entries.get(key)),
+        None => Err(EvalFault::Raised(Raise::BadArgument)),
     }
 }
 

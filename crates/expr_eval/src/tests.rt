@@ -1,10 +1,10 @@
 //! Small expressions, against worked examples.
-use crate::{EvalFault, eval};
-use ast_core::{BinaryOp, Expr, Operand};
+use crate::{EvalFault, eval, eval_over};
+use ast_core::{BinaryOp, Expr, Operand, PathStep};
 use std::alloc::Global;
 use std::test::Fail;
 use text_core::{ByKey, OutOfMemory, Seq, Text};
-use value_core::{Raise, Value};
+use value_core::{Assigns, Raise, Value};
 
 // The value of an expression where nothing is in scope.
 fn evaluated(alloc: Global, expr: &Expr) -> Result<Value, EvalFault> {
@@ -28,6 +28,17 @@ fn chain(
     }
     let first = Box::new(alloc, first)?;
     Ok(Expr::LeftChain { first, rest })
+}
+
+// One entry.
+fn entry(alloc: Global, key: &str, value: Value) -> Result<Assigns, OutOfMemory> {
+    let mut entries = ByKey::new(alloc);
+    entries.insert(Text::copy_of(alloc, key)?, value)?;
+    Ok(entries)
+}
+
+fn assign(alloc: Global, name: &str) -> Result<Expr, OutOfMemory> {
+    Ok(Expr::Assign(Text::copy_of(alloc, name)?))
 }
 
 #[test]
@@ -78,5 +89,58 @@ fn what_decides_alone(rt: HostRuntime) -> Result<(), Fail> {
     let expr = chain(alloc, Expr::Bool(false), BinaryOp::And, 2, 3)?;
     let value = evaluated(alloc, &expr)?;
     assert!(rt; matches!(&value, Value::Bool(false)));
+    Ok(())
+}
+
+#[test]
+fn a_path_of_three_fields(rt: HostRuntime) -> Result<(), Fail> {
+    let alloc = rt.alloc();
+    let city = entry(alloc, "city", Value::Int(7))?;
+    let home = entry(alloc, "home", Value::Map(city))?;
+    let user = entry(alloc, "user", Value::Map(home))?;
+    let assigns = entry(alloc, "page", Value::Map(user))?;
+    let mut steps = Seq::new(alloc);
+    steps.push(PathStep::Field(Text::copy_of(alloc, "user")?))?;
+    steps.push(PathStep::Field(Text::copy_of(alloc, "home")?))?;
+    steps.push(PathStep::Field(Text::copy_of(alloc, "city")?))?;
+    let value = Box::new(alloc, assign(alloc, "page")?)?;
+    let path = Expr::Path { value, steps };
+    let variables = ByKey::new(alloc);
+    let value = eval(alloc, &assigns, &variables, &path)?;
+    assert!(rt; matches!(&value, Value::Int(7)));
+    Ok(())
+}
+
+#[test]
+fn an_index_of_nil(rt: HostRuntime) -> Result<(), Fail> {
+    let alloc = rt.alloc();
+    let user = entry(alloc, "user", Value::Int(7))?;
+    let assigns = entry(alloc, "page", Value::Map(user))?;
+    let mut steps = Seq::new(alloc);
+    steps.push(PathStep::Index(Expr::Atom(Text::copy_of(alloc, "home")?)))?;
+    steps.push(PathStep::Index(Expr::Atom(Text::copy_of(alloc, "city")?)))?;
+    let value = Box::new(alloc, assign(alloc, "page")?)?;
+    let path = Expr::Path { value, steps };
+    let variables = ByKey::new(alloc);
+    let value = eval(alloc, &assigns, &variables, &path)?;
+    assert!(rt; matches!(&value, Value::Nil));
+    Ok(())
+}
+
+#[test]
+fn given_over_others(rt: HostRuntime) -> Result<(), Fail> {
+    let alloc = rt.alloc();
+    let given = entry(alloc, "title", Value::Int(1))?;
+    let mut assigns = entry(alloc, "title", Value::Int(2))?;
+    assigns.insert(Text::copy_of(alloc, "count")?, Value::Int(3))?;
+    let variables = ByKey::new(alloc);
+    let title = assign(alloc, "title")?;
+    let value = eval_over(alloc, &given, &assigns, &variables, &title)?;
+    assert!(rt; matches!(&value, Value::Int(1)));
+    let count = assign(alloc, "count")?;
+    let value = eval_over(alloc, &given, &assigns, &variables, &count)?;
+    assert!(rt; matches!(&value, Value::Int(3)));
+    let value = eval(alloc, &assigns, &variables, &title)?;
+    assert!(rt; matches!(&value, Value::Int(2)));
     Ok(())
 }

@@ -2,7 +2,7 @@
 -- nothing; `before` and `after` are what the sink had taken before and after the call.
 use Rattle.std.specs.Prelude.{◌≡◌, ◌⊎◌, ℕ, List, [], ◌∷◌, ◌++◌, codes, decimal, Option, Some, None, IfSome}
 use Rattle.bundle_files.specs.declared.bundle.Bundle.{Bundle}
-use Rattle.bundle_files.specs.Bundle.{bundle_of}
+use Rattle.bundle_files.specs.Bundle.{bundle_of, bundle_view}
 use Rattle.live_page.specs.declared.app.App.{App}
 use Rattle.view_script.specs.declared.views.ScriptViews.{ScriptViews}
 use Rattle.view_script.specs.Views.{meaning_of_script}
@@ -28,9 +28,9 @@ script_line n = codes "script line " ++ decimal n ++ 10 ∷ []
 abbrev pub Says : Option (List ℕ) → Option (List ℕ) → Type 0 → List ℕ → Type 0
 Says before after sink_rose line = AddsAll before after line ⊎ (sink_rose × AddsFront before after line)
 
--- the folder's files are that bundle, where it tells them
+-- the folder's files are what that bundle stands for, where it tells them
 abbrev pub IsBundleOf : Option (List (List ℕ × List ℕ)) → Bundle → Type 0
-IsBundleOf files bundle = IfSome files (λ fs. bundle_of fs ≡ Some bundle)
+IsBundleOf files bundle = IfSome files (λ fs. bundle_of fs ≡ Some (bundle_view bundle))
 
 -- how a run of a script over an app ends
 abbrev pub RunEnds : App ScriptViews → List Line → Option (List ℕ) → Option (List ℕ) → Type 0 → Status → Type 0

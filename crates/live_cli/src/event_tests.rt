@@ -6,7 +6,7 @@ use std::test::Fail;
 use text_core::{ByKey, Bytes, HeldFolder, HeldSink, HeldSource, OutOfMemory, Text};
 
 const MANIFEST: &str =
-    "{\"version\":1,\"views\":[{\"path\":\"/\",\"template\":\"home\",\"mount\":[[\"assign\",\"n\",\"0\"],[\"assign\",\"m\",\"7\"]],\"events\":{\"inc\":[[\"assign\",\"n\",\"@n + 1\"]],\"same\":[[\"assign\",\"n\",\"@n\"]],\"both\":[[\"assign\",\"n\",\"@m - 2\"],[\"assign\",\"m\",\"@n\"]],\"top\":[[\"assign\",\"n\",\"9223372036854775807\"]]}}]}";
+    "{\"version\":1,\"views\":[{\"path\":\"/\",\"template\":\"home\",\"mount\":[[\"assign\",\"n\",\"0\"],[\"assign\",\"m\",\"7\"]],\"events\":{\"inc\":[[\"assign\",\"n\",\"@n + 1\"]],\"same\":[[\"assign\",\"n\",\"@n\"]],\"both\":[[\"assign\",\"n\",\"@m - 2\"],[\"assign\",\"m\",\"@n\"]],\"top\":[[\"assign\",\"n\",\"9223372036854775807\"]],\"add\":[[\"assign\",\"n\",\"@n + value.by\"],[\"when\",\"@n > 5\",[[\"assign\",\"m\",\"1\"]],[]]]}}]}";
 
 const JOIN: &str = "browser A\njoin A /\nrun A\n";
 
@@ -67,11 +67,34 @@ fn events(rt: HostRuntime) -> Result<(), Fail> {
             "frames A\nevent A click inc {}\nstep A\nframes A\n",
             "== A frames 1\n[\"1\",\"1\",\"lv:A\",\"phx_reply\",{\"response\":{\"rendered\":{\"0\":\"0\",\"1\":\"7\",\"2\":\"0\",\"s\":[\"\",\" \",\" \",\"\"]}},\"status\":\"ok\"}]\n== A frames 1\n[\"1\",\"2\",\"lv:A\",\"phx_reply\",{\"response\":{\"diff\":{\"0\":\"1\",\"2\":\"1\"}},\"status\":\"ok\"}]\n",
         ),
+        // A place is sent where an assign that it reads changed, also where its text is the same; a step that is not
+        // done gives nothing.
+        (
+            "{@n * 0}{@m + 1}{@n + @m}",
+            "frames A\nevent A click add {\"by\":2}\nrun A\nframes A\nevent A click add {\"by\":4}\nrun A\nhtml A\nframes A\n",
+            "== A frames 1\n[\"1\",\"1\",\"lv:A\",\"phx_reply\",{\"response\":{\"rendered\":{\"0\":\"0\",\"1\":\"8\",\"2\":\"7\",\"s\":[\"\",\"\",\"\",\"\"]}},\"status\":\"ok\"}]\n== A frames 1\n[\"1\",\"2\",\"lv:A\",\"phx_reply\",{\"response\":{\"diff\":{\"0\":\"0\",\"2\":\"9\"}},\"status\":\"ok\"}]\n== A html 3\n027\n== A frames 1\n[\"1\",\"3\",\"lv:A\",\"phx_reply\",{\"response\":{\"diff\":{\"0\":\"0\",\"1\":\"2\",\"2\":\"7\"}},\"status\":\"ok\"}]\n",
+        ),
     ] {
         let (status, out) = played(alloc, template, script)?;
         assert_eq!(rt; status, Status::Done);
         assert_eq!(rt; out.as_slice(), text.as_bytes());
     }
+    Ok(())
+}
+
+// A page that raises is gone, and a join brings the first page back.
+#[test]
+fn overflow(rt: HostRuntime) -> Result<(), Fail> {
+    let alloc = rt.alloc();
+    let (status, out) = played(
+        alloc,
+        "<p>{9223372036854775807 + @n}</p>",
+        "html A\nframes A\nevent A click inc {}\nrun A\nhtml A\nevent A click inc {}\nrun A\nframes A\njoin A /\nrun A\nhtml A\nframes A\n",
+    )?;
+    assert_eq!(rt; status, Status::Done);
+    let text =
+        "== A html 26\n<p>9223372036854775807</p>\n== A frames 1\n[\"1\",\"1\",\"lv:A\",\"phx_reply\",{\"response\":{\"rendered\":{\"0\":\"9223372036854775807\",\"s\":[\"<p>\",\"</p>\"]}},\"status\":\"ok\"}]\n== A down\n== A frames 1\n[\"1\",\"1\",\"lv:A\",\"phx_error\",{}]\n== A html 26\n<p>9223372036854775807</p>\n== A frames 1\n[\"4\",\"4\",\"lv:A\",\"phx_reply\",{\"response\":{\"rendered\":{\"0\":\"9223372036854775807\",\"s\":[\"<p>\",\"</p>\"]}},\"status\":\"ok\"}]\n";
+    assert_eq!(rt; out.as_slice(), text.as_bytes());
     Ok(())
 }
 

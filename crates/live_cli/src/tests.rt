@@ -76,11 +76,18 @@ fn pages(rt: HostRuntime) -> Result<(), Fail> {
             Status::Done,
             "== A html 6\n420 x0\n",
         ),
+        (
+            "{@count * 2 - @n}{@n == 0 && nil}",
+            HELLO,
+            Status::Done,
+            "== A html 2\n84\n",
+        ),
+        ("{@n}{@m}", HELLO, Status::Done, "== A down\n"),
         ("{@n}", "browser A\nhtml A\n", Status::Done, "== A down\n"),
         ("{@n}", "# nothing\n\n", Status::Done, ""),
-        ("<p>{@m}</p>", HELLO, Status::Refused, "refused: NotYet\n"),
+        ("<p>{@m +}</p>", HELLO, Status::Refused, "refused: NotYet\n"),
         (
-            "<p>{@m}</p>",
+            "<b>{@n}</b>",
             "browser A\njump A\n",
             Status::Refused,
             "refused: NotYet\n",
@@ -158,8 +165,8 @@ fn failing_sink(rt: HostRuntime) -> Result<(), Fail> {
     for (template, script, wanted, passing, front) in [
         ("<p>{@n}</p>", TWICE, Status::WriteFault, 0, ""),
         ("<p>{@n}</p>", TWICE, Status::WriteFault, 5, "== A "),
-        ("<p>{@m}</p>", HELLO, Status::Refused, 0, ""),
-        ("<p>{@m}</p>", HELLO, Status::Refused, 5, "refus"),
+        ("<p>{@n</p>", HELLO, Status::Refused, 0, ""),
+        ("<p>{@n</p>", HELLO, Status::Refused, 5, "refus"),
         ("{@n}", "jump A\n", Status::BadScript, 0, ""),
         ("{@n}", "jump A\n", Status::BadScript, 5, "scrip"),
     ] {

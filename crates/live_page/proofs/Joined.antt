@@ -1,17 +1,16 @@
 -- What a join leaves, and when it raises.
-use Rattle.std.proofs.Common.{◌≡◌, ℕ, List, [], Option, Some, None, Result, Ok, Err, IsErr, refl, sym, ap, ◌∙◌, subst}
+use Rattle.std.proofs.Common.{◌≡◌, ℕ, List, [], Option, Some, Ok, Err, IsErr, refl, ap, ◌∙◌}
 use Rattle.std.specs.Result.{is_err}
 use Rattle.serde_json.specs.Data.{Data}
 use Rattle.text_core.specs.declared.by_key.KeyValue.{KeyValue}
-use Rattle.value_core.specs.Value.{Value, Assigns, no_assigns}
-use Rattle.value_core.specs.View.{view, assigns_view}
+use Rattle.value_core.specs.Value.{Assigns, no_assigns}
 use Rattle.value_core.specs.declared.value.Value.{Value as Stored}
 use Rattle.view_api.specs.Effect.{Effect}
 use Rattle.view_api.specs.Meaning.{HandlerMeaning}
 use Rattle.view_api.specs.declared.views.ViewFault.{ViewFault}
 use Rattle.view_api.specs.declared.views.ViewFault.TheVariants as handler
 use Rattle.view_api.specs.View.{Means}
-use Rattle.slot_compile.specs.Template.{places_of}
+use Rattle.slot_compile.specs.Template.{values_of}
 use Rattle.diff_render.specs.Met.{items_of}
 use Rattle.diff_render.specs.Renders.{Renders}
 use Rattle.diff_render.specs.declared.fault.RenderFault.{RenderFault}
@@ -26,7 +25,6 @@ use Rattle.doc_model.specs.Effects.{Waiting, Rest, Applied, apply_effects, appli
 use Rattle.doc_model.specs.Trace.{Items}
 use Rattle.doc_model.specs.Process.{Route, Outcome, joined_page, rendered_page, turning_view}
 use Rattle.live_page.specs.declared.app.App.{App}
-use Rattle.live_page.specs.declared.page.LivePage.{LivePage}
 use Rattle.live_page.specs.World.{world_of}
 use Rattle.live_page.specs.Page.{Joins}
 use Rattle.live_page.specs.Fault.{of_view, of_render, of_effect}
@@ -60,7 +58,7 @@ module _ {V : Type 0} (meaning : V → HandlerMeaning) (app : App V) (route : Ro
   -- after the effects of both handlers
   pub joins : (es fs : List Effect) (as1 as2 : Assigns) (st1 st2 : List ℕ → Stream) (r1 r2 : Rest) → first_asked ≡ Some es → apply_effects es (applied no_assigns empty_stream r0) ≡ Ok (applied as1 st1 r1)
       → then_asked as1 ≡ Some fs → apply_effects fs (applied as1 st1 r1) ≡ Ok (applied as2 st2 r2)
-      → joined_page (world_of meaning app) route j t r0 ≡ on_res (outcome_of meaning app route.view j t as2 r2) (items_of as2 (places_of app.compiled))
+      → joined_page (world_of meaning app) route j t r0 ≡ on_res (outcome_of meaning app route.view j t as2 r2) (items_of as2 (values_of app.compiled))
   joins es fs as1 as2 st1 st2 r1 r2 asked is asked_then is_then =
       mounts es (Ok (applied as1 st1 r1)) asked is
       ∙ ap (λ o. then_do (applied_or_raise o (applied as1 st1 r1)) shown) asked_then
@@ -98,7 +96,7 @@ module _ {V : Type 0} (meaning : V → HandlerMeaning) (app : App V) (route : Ro
 
   -- a first rendering that does not succeed
   pub first_fault : (w : List Waiting) (f : Items → Outcome) (as' : Assigns) (json : Items → Data) (rest : Beside) (fault : RenderFault)
-      → joined_page (world_of meaning app) route j t r0 ≡ on_res f (items_of as' (places_of app.compiled)) → Renders app.compiled as' json (Err fault)
+      → joined_page (world_of meaning app) route j t r0 ≡ on_res f (items_of as' (values_of app.compiled)) → Renders app.compiled as' json (Err fault)
       → Joins app.compiled w (joined_page (world_of meaning app) route j t r0) (Err (of_render fault)) rest
   first_fault w f as' json rest render.Raised is (e, meets) = raises_page meaning app (joined_page (world_of meaning app) route j t r0) f as' e is meets
   first_fault w f as' json rest render.OutOfMemory is h = tt

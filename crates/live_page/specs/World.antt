@@ -3,7 +3,6 @@ use Rattle.std.specs.Prelude.{ℕ, List, [], None, Option, option_map}
 use Rattle.value_core.specs.Value.{Value, map_of, Assigns, no_assigns, assign}
 use Rattle.value_core.specs.View.{view}
 use Rattle.view_api.specs.Meaning.{HandlerMeaning, meaning_of}
-use Rattle.slot_compile.specs.declared.template.Node.{Node}
 use Rattle.slot_compile.specs.Template.{syntax_of}
 use Rattle.route_table.specs.Table.{Rows}
 use Rattle.route_table.specs.Found.{Finding, find_in}

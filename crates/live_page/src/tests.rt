@@ -1,9 +1,10 @@
 //! A page that greets, joined.
 use crate::{App, Destination, LivePage, PageFault};
+use ast_core::Expr;
 use diff_tree::{Diff, Part, write_diff};
 use effects_apply::Rest;
 use route_table::Routes;
-use slot_compile::{Node, compile};
+use slot_compile::{Compiled, Formula};
 use std::alloc::Global;
 use std::test::Fail;
 use text_core::{OutOfMemory, Seq, Text};
@@ -11,12 +12,13 @@ use view_api::Greeting;
 
 // `{@greeting}` at `/`.
 fn greeting_app(alloc: Global) -> Result<Option<App<Greeting>>, OutOfMemory> {
-    let mut nodes = Seq::new(alloc);
-    nodes.push(Node::Put(Text::copy_of(alloc, "greeting")?))?;
+    let mut compiled = Compiled::new(alloc);
+    let greeting = Expr::Assign(Text::copy_of(alloc, "greeting")?);
+    compiled.push_value(alloc, Formula::of(alloc, greeting)?)?;
     let mut paths = Seq::new(alloc);
     paths.push(Text::copy_of(alloc, "/")?)?;
     match Routes::build(alloc, &paths) {
-        Ok(routes) => Ok(Some(App::build(compile(alloc, nodes)?, routes, Greeting))),
+        Ok(routes) => Ok(Some(App::build(compiled, routes, Greeting))),
         Err(_) => Ok(None),
     }
 }

@@ -2,7 +2,7 @@
 use Rattle.std.proofs.Common.{◌≡◌, ℕ, List, [], ◌∷◌, Option, Some, None, Bool, true, false, if◌then◌else◌, refl, sym, ap, ◌∙◌, subst, Bor}
 use Rattle.std.specs.Option.{is_some, option_copied}
 use Rattle.std.proofs.lemmas.List.{append-nil}
-use Rattle.slot_compile.specs.declared.template.Node.{Node}
+use Rattle.slot_compile.specs.declared.compiled.Compiled.{Compiled}
 use Rattle.diff_tree.specs.Frame.{Frame, empty, closed}
 use Rattle.wire_v2.specs.Message as model
 use Rattle.wire_v2.specs.View.{head_view}
@@ -22,66 +22,66 @@ use Rattle.process_core.specs.Leaving.{fresh_page, is_of_kept}
 use Rattle.process_core.specs.Joining.{frames_only}
 
 -- an answer by what its parts are
-pub answers_by : (ns : List Node) (w : List Waiting) (t t' : Stepped) (kept kept' : Process) (o o' : Outcome) → t ≡ t' → kept ≡ kept' → o ≡ o' → Answers ns w t' kept' o' → Answers ns w t kept o
-answers_by ns w t t' kept kept' o o' t_is kept_is o_is h =
-    subst (λ x. Answers ns w x kept o) (sym t_is) (subst (λ k. Answers ns w t' k o) (sym kept_is) (subst (λ x. Answers ns w t' kept' x) (sym o_is) h))
+pub answers_by : (template : Compiled) (w : List Waiting) (t t' : Stepped) (kept kept' : Process) (o o' : Outcome) → t ≡ t' → kept ≡ kept' → o ≡ o' → Answers template w t' kept' o' → Answers template w t kept o
+answers_by template w t t' kept kept' o o' t_is kept_is o_is h =
+    subst (λ x. Answers template w x kept o) (sym t_is) (subst (λ k. Answers template w t' k o) (sym kept_is) (subst (λ x. Answers template w t' kept' x) (sym o_is) h))
 
 -- nothing changes
-pub still : (ns : List Node) (kept : Process) (s : ProcessState) (w : List Waiting) (fs : List Frame) → Keeps ns kept s → Answers ns w (unchanged s w fs) kept (frames_only (spelled fs) false)
-still ns kept s w fs keeps = record { keeps = keeps; waits = sym (append-nil w); frames = refl; actions = refl; crashed = refl }
+pub still : (template : Compiled) (kept : Process) (s : ProcessState) (w : List Waiting) (fs : List Frame) → Keeps template kept s → Answers template w (unchanged s w fs) kept (frames_only (spelled fs) false)
+still template kept s w fs keeps = record { keeps = keeps; waits = sym (append-nil w); frames = refl; actions = refl; crashed = refl }
 
 -- down
-pub down : (ns : List Node) (g : ℕ) (w : List Waiting) (fs : List Frame) (c : Bool) → Answers ns w (goes_down g w fs c) (record { generation = g; up = None }) (frames_only (spelled fs) c)
-down ns g w fs c = record { keeps = record { generation = refl; up = tt }; waits = sym (append-nil w); frames = refl; actions = refl; crashed = refl }
+pub down : (template : Compiled) (g : ℕ) (w : List Waiting) (fs : List Frame) (c : Bool) → Answers template w (goes_down g w fs c) (record { generation = g; up = None }) (frames_only (spelled fs) c)
+down template g w fs c = record { keeps = record { generation = refl; up = tt }; waits = sym (append-nil w); frames = refl; actions = refl; crashed = refl }
 
 -- the answer to a message, by the page that is up
 abbrev at_page : ProcessState → List Waiting → model.MessageHead → (Page → Stepped) → Option Page → Stepped
 at_page s w h f o = elim o [ None ↦ unchanged s w [] | Some p ↦ if is_of p h then f p else unchanged s w [] ]
 
-same_test : (ns : List Node) (u : Up) (p : Page) → UpFor ns u p → (h : MessageHead) → is_of p (head_view h) ≡ is_of_kept u.page h
-same_test ns u p up h = ap (λ q. is_of q (head_view h)) up.stands.is
+same_test : (template : Compiled) (u : Up) (p : Page) → UpFor template u p → (h : MessageHead) → is_of p (head_view h) ≡ is_of_kept u.page h
+same_test template u p up h = ap (λ q. is_of q (head_view h)) up.stands.is
 
 stale_by : (page : LivePage) (s : ProcessState) (w : List Waiting) (t : Stepped) (b c : Bool) → b ≡ c → (if c then Some page else None) ≡ None → (if b then t else unchanged s w []) ≡ unchanged s w []
 stale_by page s w t b true is none = cc
 stale_by page s w t b false is none = ap (λ x. if x then t else unchanged s w []) is
 
-stale_at : (ns : List Node) (h : MessageHead) (s : ProcessState) (w : List Waiting) (f : Page → Stepped) (k : Option Up) (o : Option Page)
-    → UpStands ns k o → fresh_page k h ≡ None → at_page s w (head_view h) f o ≡ unchanged s w []
-stale_at ns h s w f None None up none = refl
-stale_at ns h s w f (Some u) (Some p) up none = stale_by u.page s w (f p) (is_of p (head_view h)) (is_of_kept u.page h) (same_test ns u p up h) none
-stale_at ns h s w f None (Some p) up none = absurd up
-stale_at ns h s w f (Some u) None up none = absurd up
+stale_at : (template : Compiled) (h : MessageHead) (s : ProcessState) (w : List Waiting) (f : Page → Stepped) (k : Option Up) (o : Option Page)
+    → UpStands template k o → fresh_page k h ≡ None → at_page s w (head_view h) f o ≡ unchanged s w []
+stale_at template h s w f None None up none = refl
+stale_at template h s w f (Some u) (Some p) up none = stale_by u.page s w (f p) (is_of p (head_view h)) (is_of_kept u.page h) (same_test template u p up h) none
+stale_at template h s w f None (Some p) up none = absurd up
+stale_at template h s w f (Some u) None up none = absurd up
 
 -- a message that is not of the page that is up
-pub stale : (ns : List Node) (kept : Process) (s : ProcessState) (w : List Waiting) (h : MessageHead) (f : Page → Stepped)
-    → Keeps ns kept s → fresh_page kept.up h ≡ None → if_fresh s w (head_view h) f ≡ unchanged s w []
-stale ns kept s w h f keeps none = stale_at ns h s w f kept.up s.page keeps.up none
+pub stale : (template : Compiled) (kept : Process) (s : ProcessState) (w : List Waiting) (h : MessageHead) (f : Page → Stepped)
+    → Keeps template kept s → fresh_page kept.up h ≡ None → if_fresh s w (head_view h) f ≡ unchanged s w []
+stale template kept s w h f keeps none = stale_at template h s w f kept.up s.page keeps.up none
 
 -- a message of the page that is up
-pub record Fresh (ns : List Node) (page : LivePage) (t : Stepped) (f : Page → Stepped) : Type 0 where
+pub record Fresh (template : Compiled) (page : LivePage) (t : Stepped) (f : Page → Stepped) : Type 0 where
   pub shown : Page
-  pub stands : StandsFor ns page shown
+  pub stands : StandsFor template page shown
   pub steps : t ≡ f shown
 
 not_some : (page : LivePage) → None ≡ Some page → ⊥
 not_some page h = cc
 
-fresh_by : (ns : List Node) (u : Up) (p : Page) (page : LivePage) (s : ProcessState) (w : List Waiting) (f : Page → Stepped) (b c : Bool)
-    → UpFor ns u p → b ≡ c → (if c then Some u.page else None) ≡ Some page → Fresh ns page (if b then f p else unchanged s w []) f
-fresh_by ns u p page s w f b true up is some =
+fresh_by : (template : Compiled) (u : Up) (p : Page) (page : LivePage) (s : ProcessState) (w : List Waiting) (f : Page → Stepped) (b c : Bool)
+    → UpFor template u p → b ≡ c → (if c then Some u.page else None) ≡ Some page → Fresh template page (if b then f p else unchanged s w []) f
+fresh_by template u p page s w f b true up is some =
     let same : u.page ≡ page = cc in
-    record { shown = p; stands = subst (λ x. StandsFor ns x p) same up.stands; steps = ap (λ x. if x then f p else unchanged s w []) is }
-fresh_by ns u p page s w f b false up is some = cc
+    record { shown = p; stands = subst (λ x. StandsFor template x p) same up.stands; steps = ap (λ x. if x then f p else unchanged s w []) is }
+fresh_by template u p page s w f b false up is some = cc
 
-fresh_at : (ns : List Node) (h : MessageHead) (page : LivePage) (s : ProcessState) (w : List Waiting) (f : Page → Stepped) (k : Option Up) (o : Option Page)
-    → UpStands ns k o → fresh_page k h ≡ Some page → Fresh ns page (at_page s w (head_view h) f o) f
-fresh_at ns h page s w f None o up some = absurd (not_some page some)
-fresh_at ns h page s w f (Some u) (Some p) up some = fresh_by ns u p page s w f (is_of p (head_view h)) (is_of_kept u.page h) up (same_test ns u p up h) some
-fresh_at ns h page s w f (Some u) None up some = absurd up
+fresh_at : (template : Compiled) (h : MessageHead) (page : LivePage) (s : ProcessState) (w : List Waiting) (f : Page → Stepped) (k : Option Up) (o : Option Page)
+    → UpStands template k o → fresh_page k h ≡ Some page → Fresh template page (at_page s w (head_view h) f o) f
+fresh_at template h page s w f None o up some = absurd (not_some page some)
+fresh_at template h page s w f (Some u) (Some p) up some = fresh_by template u p page s w f (is_of p (head_view h)) (is_of_kept u.page h) up (same_test template u p up h) some
+fresh_at template h page s w f (Some u) None up some = absurd up
 
-pub fresh : (ns : List Node) (kept : Process) (s : ProcessState) (w : List Waiting) (h : MessageHead) (page : LivePage) (f : Page → Stepped)
-    → Keeps ns kept s → fresh_page kept.up h ≡ Some page → Fresh ns page (if_fresh s w (head_view h) f) f
-fresh ns kept s w h page f keeps some = fresh_at ns h page s w f kept.up s.page keeps.up some
+pub fresh : (template : Compiled) (kept : Process) (s : ProcessState) (w : List Waiting) (h : MessageHead) (page : LivePage) (f : Page → Stepped)
+    → Keeps template kept s → fresh_page kept.up h ≡ Some page → Fresh template page (if_fresh s w (head_view h) f) f
+fresh template kept s w h page f keeps some = fresh_at template h page s w f kept.up s.page keeps.up some
 
 true_is_not_false : true ≡ false → ⊥
 true_is_not_false h = cc
@@ -96,52 +96,52 @@ no_page None x e h = sym h
 no_page (Some b) x e h = absurd (true_is_not_false e)
 
 -- nothing is answered
-pub silence : (ns : List Node) (kept kept' : Process) (s : ProcessState) (w : List Waiting) (h : MessageHead) (f : Page → Stepped) (o : Outcome)
-    → Keeps ns kept s → fresh_page kept.up h ≡ None → kept' ≡ kept → o ≡ frames_only [] false → Answers ns w (if_fresh s w (head_view h) f) kept' o
-silence ns kept kept' s w h f o keeps none kept_is o_is =
-    answers_by ns w (if_fresh s w (head_view h) f) (unchanged s w []) kept' kept o (frames_only [] false) (stale ns kept s w h f keeps none) kept_is o_is (still ns kept s w [] keeps)
+pub silence : (template : Compiled) (kept kept' : Process) (s : ProcessState) (w : List Waiting) (h : MessageHead) (f : Page → Stepped) (o : Outcome)
+    → Keeps template kept s → fresh_page kept.up h ≡ None → kept' ≡ kept → o ≡ frames_only [] false → Answers template w (if_fresh s w (head_view h) f) kept' o
+silence template kept kept' s w h f o keeps none kept_is o_is =
+    answers_by template w (if_fresh s w (head_view h) f) (unchanged s w []) kept' kept o (frames_only [] false) (stale template kept s w h f keeps none) kept_is o_is (still template kept s w [] keeps)
 
 -- frames are answered, and nothing changes
-pub replied : (ns : List Node) (kept kept' : Process) (s : ProcessState) (w : List Waiting) (h : MessageHead) (page : LivePage) (fs : List Frame) (o : Outcome)
-    → Keeps ns kept s → fresh_page kept.up h ≡ Some page → kept' ≡ kept → o ≡ frames_only (spelled fs) false → Answers ns w (if_fresh s w (head_view h) (λ p. unchanged s w fs)) kept' o
-replied ns kept kept' s w h page fs o keeps some kept_is o_is =
-    answers_by ns w (if_fresh s w (head_view h) (λ p. unchanged s w fs)) (unchanged s w fs) kept' kept o (frames_only (spelled fs) false)
-    (fresh ns kept s w h page (λ p. unchanged s w fs) keeps some).steps kept_is o_is (still ns kept s w fs keeps)
+pub replied : (template : Compiled) (kept kept' : Process) (s : ProcessState) (w : List Waiting) (h : MessageHead) (page : LivePage) (fs : List Frame) (o : Outcome)
+    → Keeps template kept s → fresh_page kept.up h ≡ Some page → kept' ≡ kept → o ≡ frames_only (spelled fs) false → Answers template w (if_fresh s w (head_view h) (λ p. unchanged s w fs)) kept' o
+replied template kept kept' s w h page fs o keeps some kept_is o_is =
+    answers_by template w (if_fresh s w (head_view h) (λ p. unchanged s w fs)) (unchanged s w fs) kept' kept o (frames_only (spelled fs) false)
+    (fresh template kept s w h page (λ p. unchanged s w fs) keeps some).steps kept_is o_is (still template kept s w fs keeps)
 
 -- the frames of leaving
 abbrev pub farewell : model.MessageHead → Option (List ℕ) → List ℕ → List Frame
 farewell h j t = reply_to h empty ∷ frame_of j j t closed ∷ []
 
 -- the process is left
-pub leaves : (ns : List Node) (kept kept' : Process) (s : ProcessState) (w : List Waiting) (h : MessageHead) (page : LivePage) (o : Outcome)
-    → Keeps ns kept s → fresh_page kept.up h ≡ Some page → kept' ≡ record { generation = kept.generation; up = None } → o ≡ frames_only (spelled (farewell (head_view h) page.join_ref page.topic)) false
-    → Answers ns w (if_fresh s w (head_view h) (λ p. goes_down s.generation w (farewell (head_view h) p.join_reference p.topic) false)) kept' o
-leaves ns kept kept' s w h page o keeps some kept_is o_is =
-    answers_by ns w (if_fresh s w (head_view h) left) (goes_down kept.generation w (farewell (head_view h) page.join_ref page.topic) false) kept' (record { generation = kept.generation; up = None }) o
+pub leaves : (template : Compiled) (kept kept' : Process) (s : ProcessState) (w : List Waiting) (h : MessageHead) (page : LivePage) (o : Outcome)
+    → Keeps template kept s → fresh_page kept.up h ≡ Some page → kept' ≡ record { generation = kept.generation; up = None } → o ≡ frames_only (spelled (farewell (head_view h) page.join_ref page.topic)) false
+    → Answers template w (if_fresh s w (head_view h) (λ p. goes_down s.generation w (farewell (head_view h) p.join_reference p.topic) false)) kept' o
+leaves template kept kept' s w h page o keeps some kept_is o_is =
+    answers_by template w (if_fresh s w (head_view h) left) (goes_down kept.generation w (farewell (head_view h) page.join_ref page.topic) false) kept' (record { generation = kept.generation; up = None }) o
     (frames_only (spelled (farewell (head_view h) page.join_ref page.topic)) false)
     (at.steps ∙ ap (λ g. goes_down g w (farewell (head_view h) at.shown.join_reference at.shown.topic) false) keeps.generation ∙ ap (λ q. goes_down kept.generation w (farewell (head_view h) q.join_reference q.topic) false) at.stands.is)
-    kept_is o_is (down ns kept.generation w (farewell (head_view h) page.join_ref page.topic) false)
+    kept_is o_is (down template kept.generation w (farewell (head_view h) page.join_ref page.topic) false)
   where
     left : Page → Stepped
     left p = goes_down s.generation w (farewell (head_view h) p.join_reference p.topic) false
 
-    at : Fresh ns page (if_fresh s w (head_view h) left) left
-    at = fresh ns kept s w h page left keeps some
+    at : Fresh template page (if_fresh s w (head_view h) left) left
+    at = fresh template kept s w h page left keeps some
 
 -- no component lives
-no_component : (ns : List Node) (page : LivePage) (p : Page) (n : ℕ) → StandsFor ns page p → component_at n p.components ≡ None
-no_component ns page p n stands = ap (λ q. component_at n q.components) stands.is
+no_component : (template : Compiled) (page : LivePage) (p : Page) (n : ℕ) → StandsFor template page p → component_at n p.components ≡ None
+no_component template page p n stands = ap (λ q. component_at n q.components) stands.is
 
-absent_at : (world : World) (ns : List Node) (h : model.MessageHead) (name : List ℕ) (v : Value) (n : ℕ) (s : ProcessState) (w : List Waiting) (k : Option Up) (o : Option Page) → UpStands ns k o
+absent_at : (world : World) (template : Compiled) (h : model.MessageHead) (name : List ℕ) (v : Value) (n : ℕ) (s : ProcessState) (w : List Waiting) (k : Option Up) (o : Option Page) → UpStands template k o
     → at_page s w h (λ p. step_event world s p w h name v (Some n)) o ≡ at_page s w h (λ p. unchanged s w (reply_to h empty ∷ [])) o
-absent_at world ns h name v n s w None None up = refl
-absent_at world ns h name v n s w (Some u) (Some p) up =
-    let e : step_event world s p w h name v (Some n) ≡ unchanged s w (reply_to h empty ∷ []) = ap (λ c. step_component world s p w h name v c) (no_component ns u.page p n up.stands) in
+absent_at world template h name v n s w None None up = refl
+absent_at world template h name v n s w (Some u) (Some p) up =
+    let e : step_event world s p w h name v (Some n) ≡ unchanged s w (reply_to h empty ∷ []) = ap (λ c. step_component world s p w h name v c) (no_component template u.page p n up.stands) in
     ap (λ t. if is_of p h then t else unchanged s w []) e
-absent_at world ns h name v n s w None (Some p) up = absurd up
-absent_at world ns h name v n s w (Some u) None up = absurd up
+absent_at world template h name v n s w None (Some p) up = absurd up
+absent_at world template h name v n s w (Some u) None up = absurd up
 
 -- an event of a component is one of a component that is gone
-pub absent : (world : World) (ns : List Node) (kept : Process) (s : ProcessState) (w : List Waiting) (h : model.MessageHead) (name : List ℕ) (v : Value) (n : ℕ) → Keeps ns kept s
+pub absent : (world : World) (template : Compiled) (kept : Process) (s : ProcessState) (w : List Waiting) (h : model.MessageHead) (name : List ℕ) (v : Value) (n : ℕ) → Keeps template kept s
     → if_fresh s w h (λ p. step_event world s p w h name v (Some n)) ≡ if_fresh s w h (λ p. unchanged s w (reply_to h empty ∷ []))
-absent world ns kept s w h name v n keeps = absent_at world ns h name v n s w kept.up s.page keeps.up
+absent world template kept s w h name v n keeps = absent_at world template h name v n s w kept.up s.page keeps.up

@@ -3,7 +3,7 @@ use Rattle.std.proofs.Common.{◌≡◌, ℕ, List, [], Ok, sym, ap}
 use Rattle.serde_json.specs.Data.{Data}
 use Rattle.value_core.specs.Value.{Assigns}
 use Rattle.ast_core.specs.Places.{cut}
-use Rattle.slot_compile.specs.declared.template.Node.{Node}
+use Rattle.slot_compile.specs.declared.compiled.Compiled.{Compiled}
 use Rattle.slot_compile.specs.Template.{syntax_of}
 use Rattle.diff_tree.specs.Tree.{node}
 use Rattle.diff_tree.specs.Spelling.{page_tree_json}
@@ -19,5 +19,5 @@ abbrev with_parts : List (List ℕ) → Items → List Part → Data
 with_parts st is ps = page_tree_json (record { root = node st (whole_places is); numbers = part_numbers ps; component = λ n. option_tree (part_at n ps) }) []
 
 -- where no component is met, the page is its root
-pub page_is_root : (ns : List Node) (as' : Assigns) (is : Items) → Meets ns as' (Ok is) → whole_json ns is ≡ page_tree_json (whole_tree (cut (syntax_of ns)) is) []
-page_is_root ns as' is h = sym (ap (with_parts (cut (syntax_of ns)) is) (no_parts ns as' is h))
+pub page_is_root : (template : Compiled) (as' : Assigns) (is : Items) → Meets template as' (Ok is) → whole_json template is ≡ page_tree_json (whole_tree (cut (syntax_of template)) is) []
+page_is_root template as' is h = sym (ap (with_parts (cut (syntax_of template)) is) (no_parts template as' is h))

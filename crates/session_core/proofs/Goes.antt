@@ -4,9 +4,9 @@ use Rattle.std.proofs.lemmas.List.{map-append, length-map, length-append}
 use Rattle.value_core.specs.View.{view}
 use Rattle.value_core.specs.declared.value.Value.{Value}
 use Rattle.ast_core.specs.Places.{streams_in, Once}
-use Rattle.slot_compile.specs.declared.template.Node.{Node}
-use Rattle.slot_compile.specs.declared.template.Node.TheVariants as piece
-use Rattle.slot_compile.specs.Template.{syntax_of}
+use Rattle.slot_compile.specs.declared.compiled.Compiled.{Compiled}
+use Rattle.slot_compile.specs.declared.compiled.Interpolation.{Interpolation}
+use Rattle.slot_compile.specs.Template.{syntax_from}
 use Rattle.view_api.specs.Meaning.{HandlerMeaning}
 use Rattle.live_page.specs.declared.app.App.{App}
 use Rattle.live_page.specs.World.{world_of}
@@ -40,11 +40,10 @@ pub record Stands {V : Type 0} (meaning : V → HandlerMeaning) (app : App V) (e
   pub inbox_is : (standing_of meaning (machine app es)).inbox ≡ inbox_view inbox
   pub size : kept ≡ min (kept_size (machine app es)) 18446744073709551615
 
--- a template of texts and assigns has no stream
-no_streams : (ns : List Node) → streams_in (syntax_of ns) ≡ []
-no_streams [] = refl
-no_streams (piece.Text t ∷ ns) = no_streams ns
-no_streams (piece.Put n ∷ ns) = no_streams ns
+-- a template of texts and interpolations has no stream
+no_streams : (is : List Interpolation) (t : List ℕ) → streams_in (syntax_from is t) ≡ []
+no_streams [] t = refl
+no_streams (i ∷ is) t = no_streams is t
 
 size_more : (xs : List journal.Entry) (e : journal.Entry) → journal_size (xs ++ e ∷ []) ≡ journal_size xs + entry_size e
 size_more [] e = omega arith
@@ -55,11 +54,11 @@ views_sent g [] = refl
 views_sent g (v ∷ vs) = ap (λ ws. model.sent g (view v) ∷ ws) (views_sent g vs)
 
 -- the last words of what is up
-words_are : (ns : List Node) (g : ℕ) (u : Option Up) (page : Option Page) → UpStands ns u page → words_of (record { generation = g; up = u }) ≡ spelled (fault_frames page (Some (codes "out of memory")))
-words_are ns g None None h = refl
-words_are ns g None (Some p) h = absurd h
-words_are ns g (Some u) None h = absurd h
-words_are ns g (Some u) (Some p) h = h.ready
+words_are : (template : Compiled) (g : ℕ) (u : Option Up) (page : Option Page) → UpStands template u page → words_of (record { generation = g; up = u }) ≡ spelled (fault_frames page (Some (codes "out of memory")))
+words_are template g None None h = refl
+words_are template g None (Some p) h = absurd h
+words_are template g (Some u) None h = absurd h
+words_are template g (Some u) (Some p) h = h.ready
 
 -- a text that fits, and the size that it leaves
 fits_size : (kept size n asked : ℕ) → kept ≡ min size 18446744073709551615 → asked ≡ min (n + 64) 18446744073709551615 → kept + asked ≤ 16777216 → size + (64 + ((n + 0) + 0)) ≤ 16777216
@@ -79,7 +78,7 @@ module _ {V : Type 0} (meaning : V → HandlerMeaning) (app : App V) where
   standing es = standing_of meaning (machine app es)
 
   pub linked : IsLinked (world_of meaning app)
-  linked = record { of_view = λ v. subst Once (sym (no_streams app.compiled)) tt; of_module = λ m. tt }
+  linked = record { of_view = λ v. subst Once (sym (no_streams app.compiled.interpolations app.compiled.last)) tt; of_module = λ m. tt }
 
   abbrev more_view : (es : List (ℕ × Entry)) (by : ℕ) (e : Entry) → journal_view (es ++ (by, e) ∷ []) ≡ journal_view es ++ entry_view e ∷ []
   more_view es by e = map-append (λ x. entry_view x.1) es ((by, e) ∷ [])

@@ -38,10 +38,14 @@ pub struct Session<V: Views> {
 }
 
 impl<V: Views> Model for Session<V> {
+    ghost use Rattle.std.specs.Coded.{codes};
+    ghost use Rattle.ast_core.specs.contracts.expr.Expr as row;
     ghost use Rattle.session_core.specs.Machine.{Machine};
     ghost use Rattle.session_core.specs.Keeps.{machine_of, KeepsAll};
 
     ghost Value = { Machine V };
+
+    ghost coded = { Prim.hlevel (codes, row.the_row.coded) };
 
     ghost view = { machine_of };
 

@@ -1,5 +1,1 @@
-pub mod Name
 pub mod Template
-pub mod Reading
-pub mod Parts
-pub mod Rendering

@@ -1,48 +1,39 @@
--- The statics and the places of a template.
+-- The statics and the places of a template of texts and interpolations.
 use Rattle.std.specs.Prelude.{◌≡◌, ℕ, List, [], ◌∷◌, ◌++◌, map}
-use Rattle.ast_core.specs.Syntax.{at, name, Place, put, Nodes, no_nodes, node, text_node, at_place}
+use Rattle.ast_core.specs.declared.expr.Expr.{Expr}
+use Rattle.ast_core.specs.ExprView.{expr_view}
+use Rattle.ast_core.specs.Syntax as model
+use Rattle.ast_core.specs.Syntax.{Place, put, Nodes, no_nodes, node, text_node, at_place}
 use Rattle.ast_core.specs.Places.{places_in, cut}
-use Rattle.slot_compile.specs.declared.template.Node.{Node}
-use Rattle.slot_compile.specs.declared.template.Node.TheVariants as piece
+use Rattle.slot_compile.specs.declared.compiled.Interpolation.{Interpolation}
+use Rattle.slot_compile.specs.declared.compiled.Compiled.{Compiled}
 
--- the assigns that the places show, in document order
-abbrev pub places_of : List Node → List (List ℕ)
-places_of [] = []
-places_of (piece.Text t ∷ ns) = places_of ns
-places_of (piece.Put n ∷ ns) = n ∷ places_of ns
+-- the empty template, and one with more at its end
+abbrev pub beginning : Compiled
+beginning = record { interpolations = []; last = [] }
 
--- the constant text before the first place
-abbrev pub first_static : List Node → List ℕ
-first_static [] = []
-first_static (piece.Text t ∷ ns) = t ++ first_static ns
-first_static (piece.Put n ∷ ns) = []
+abbrev pub with_text : List ℕ → Compiled → Compiled
+with_text t c = record c { last = c.last ++ t }
 
--- the constant texts behind each place
-abbrev pub later_statics : List Node → List (List ℕ)
-later_statics [] = []
-later_statics (piece.Text t ∷ ns) = later_statics ns
-later_statics (piece.Put n ∷ ns) = first_static ns ∷ later_statics ns
+abbrev pub with_value : Expr → Compiled → Compiled
+with_value e c = record { interpolations = c.interpolations ++ record { before = c.last; value = e } ∷ []; last = [] }
 
--- the constant text, cut at the places: one static more than there are places
-abbrev pub statics_of : List Node → List (List ℕ)
-statics_of ns = first_static ns ∷ later_statics ns
+-- the constant texts: one more than there are values
+abbrev pub statics_of : Compiled → List (List ℕ)
+statics_of c = map (λ i. i.before) c.interpolations ++ c.last ∷ []
 
--- statics and the texts of places by turns
-abbrev pub weave : List (List ℕ) → List (List ℕ) → List ℕ
-weave [] ts = []
-weave (s ∷ ss) [] = s
-weave (s ∷ ss) (t ∷ ts) = s ++ (t ++ weave ss ts)
+-- what is interpolated, in document order
+abbrev pub values_of : Compiled → List model.Expr
+values_of c = map (λ i. expr_view i.value) c.interpolations
 
--- the nodes as the language's syntax has them; where a node stands in its file is not kept yet
-abbrev pub syntax_of : List Node → Nodes
-syntax_of [] = no_nodes
-syntax_of (piece.Text t ∷ ns) = node (text_node t) (syntax_of ns)
-syntax_of (piece.Put n ∷ ns) = node (at_place (record { line = 1; column = 1 }) (put (name (at n)))) (syntax_of ns)
+-- the template in the language's syntax; where a node stands in its file is not kept yet
+abbrev pub syntax_from : List Interpolation → List ℕ → Nodes
+syntax_from [] t = node (text_node t) no_nodes
+syntax_from (i ∷ is) t = node (text_node i.before) (node (at_place (record { line = 1; column = 1 }) (put (expr_view i.value))) (syntax_from is t))
 
--- the place `{@n}`
-abbrev pub put_assign : List ℕ → Place
-put_assign n = put (name (at n))
+abbrev pub syntax_of : Compiled → Nodes
+syntax_of c = syntax_from c.interpolations c.last
 
--- the law: these statics and places are those of the syntax
+-- the law: these are the statics and the places of the syntax
 abbrev pub CutsSyntax : Type 0
-CutsSyntax = (ns : List Node) → (cut (syntax_of ns) ≡ statics_of ns) × (places_in (syntax_of ns) ≡ map put_assign (places_of ns))
+CutsSyntax = (c : Compiled) → (cut (syntax_of c) ≡ statics_of c) × (places_in (syntax_of c) ≡ map put (values_of c))

@@ -1,14 +1,12 @@
-//! Templates: how they are read, and how they are cut into statics and places.
+//! Templates, cut at what is interpolated in them.
 #![tactic(auto)]
 
-mod cutting;
+mod compiled;
+mod formula;
 mod laws;
-mod name;
-mod read;
-mod template;
+#[cfg(test)]
+mod tests;
 
-pub use cutting::{Compiled, compile};
-pub use laws::{cuts_syntax, reads_as_spelled, statics_weave};
-pub use name::is_name;
-pub use read::{TemplateFault, read_template};
-pub use template::{Node, Nodes};
+pub use compiled::{Compiled, Interpolation};
+pub use formula::Formula;
+pub use laws::cuts_syntax;

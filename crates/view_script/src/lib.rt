@@ -1,7 +1,6 @@
 //! Views whose handlers are the steps of a manifest.
 #![tactic(auto)]
 
-mod number;
 mod script;
 #[cfg(test)]
 mod tests;

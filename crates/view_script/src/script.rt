@@ -1,69 +1,126 @@
 //! The effects of steps.
-ghost use Rattle.std.specs.Prelude.{◌≡◌, [], ◌∷◌, ◌++◌, OnOk};
-ghost use Rattle.text_core.specs.Keyed.{with_key};
-ghost use Rattle.value_core.specs.Value.{whole_number};
-ghost use Rattle.value_core.specs.View.{assigns_view};
-ghost use Rattle.view_api.specs.Effect.{assign_to};
-ghost use Rattle.view_api.specs.View.{effect_view, effects_view, Means};
-ghost use Rattle.view_script.specs.Script.{name_of, value_of, effects_of};
+ghost use Rattle.std.specs.Prelude.{OnOk};
+ghost use Rattle.value_core.specs.Value.{Assigns as Scope};
+ghost use Rattle.value_core.specs.View.{view, assigns_view};
+ghost use Rattle.ast_core.specs.ExprView.{expr_view};
+ghost use Rattle.doc_model.specs.Environment.{over};
+ghost use Rattle.bundle_files.specs.StepsView.{step_view, steps_view};
+ghost use Rattle.view_api.specs.View.{Means};
+ghost use Rattle.view_script.specs.Script.{Done, given, value_in, step_done, steps_done, effects_of};
+ghost use Rattle.view_script.specs.Doing.{Stands, Does, Values};
 
-use crate::number::number_given;
-use bundle_files::{Amount, Step};
+use bundle_files::{Step, Steps};
+use expr_eval::{EvalFault, eval_over, is_true};
+use slot_compile::Formula;
 use std::alloc::Global;
 use text_core::{ByKey, OutOfMemory, Seq, Text};
-use value_core::{Assigns, Value};
+use value_core::{Assigns, Value, copy};
 use view_api::{Effect, Effects, ViewFault};
 
-fn name_of(step: &Step) -> &Text
-    ensures { result.now ≡ name_of step.now }
-{
-    let Step::Assign { name, value: _ } = step;
-    name
+/// How far steps are done.
+#[derive(Debug, Drop)]
+pub(crate) struct Doing {
+    /// The assigns that were given since, over the assigns as they were.
+    pub given: Assigns,
+    pub effects: Effects,
 }
 
-fn value_of(step: &Step) -> &Amount
-    ensures { result.now ≡ value_of step.now }
-{
-    let Step::Assign { name: _, value } = step;
-    value
-}
-
-fn number_effect(name: Text, number: i64) -> Effect
-    ensures { effect_view result ≡ assign_to name (whole_number number) }
-{
-    Effect::Assign {
-        name,
-        value: Value::Int(number),
-    }
-}
-
-// Adds that an assign is given a number.
-fn push_number(
+// The value of an expression where some assigns were given since.
+fn value_of(
     alloc: Global,
-    name: &Text,
-    number: i64,
-    given: &mut ByKey<i64>,
-    effects: &mut Effects,
-) -> Result<(), OutOfMemory>
-    ensures given { OnOk result (given.new ≡ with_key name.now number given.old) }
-    ensures effects { OnOk result (effects_view effects.new ≡ effects_view effects.old ++ assign_to name.now (whole_number number) ∷ []) }
+    doing: &Doing,
+    variables: &Assigns,
+    assigns: &Assigns,
+    value: &Formula,
+) -> Result<Value, ViewFault>
+    ensures { Values result (value_in (assigns_view variables.now) (over (assigns_view doing.now.given) (assigns_view assigns.now)) (expr_view value.now)) }
 {
-    effects.push(number_effect(name.copy(alloc)?, number))?;
-    given.insert(name.copy(alloc)?, number)
+    match eval_over(alloc, &doing.given, assigns, variables, value.expr()) {
+        Ok(value) => Ok(value),
+        Err(EvalFault::Raised(_)) => Err(ViewFault::Raised),
+        Err(EvalFault::OutOfMemory) => Err(ViewFault::OutOfMemory),
+    }
 }
 
-/// The effects of steps, each of which sees the assigns as the earlier ones left them. Raised where a step reads what
-/// is absent or no whole number, or comes to a number that 64 bits don't hold.
-pub fn effects_of(alloc: Global, steps: &[Step], assigns: &Assigns) -> Result<Effects, ViewFault>
-    ensures { Means result (effects_of (assigns_view assigns.now) steps.now) }
+// Gives an assign a value.
+fn give(alloc: Global, name: &Text, value: Value, doing: &mut Doing) -> Result<(), OutOfMemory>
+    ensures { (before : Scope) → (d : Done) → Stands before doing.old d
+        → OnOk result (Stands before doing.new (given name.now d (view value))) }
 {
-    let mut given = ByKey::new(alloc);
-    let mut effects = Seq::new(alloc);
-    for step in steps {
-        let Some(number) = number_given(&given, assigns, value_of(step)) else {
-            return Err(ViewFault::Raised);
-        };
-        push_number(alloc, name_of(step), number, &mut given, &mut effects)?;
+    let kept = copy(alloc, &value)?;
+    let effect = Effect::Assign {
+        name: name.copy(alloc)?,
+        value,
+    };
+    doing.effects.push(effect)?;
+    doing.given.insert(name.copy(alloc)?, kept)
+}
+
+// Does a step.
+#[cycle(steps)]
+fn do_step(
+    alloc: Global,
+    step: &Step,
+    variables: &Assigns,
+    assigns: &Assigns,
+    doing: &mut Doing,
+) -> Result<(), ViewFault>
+    ensures { (d : Done) → Stands (assigns_view assigns.now) doing.old d
+        → Does (assigns_view assigns.now) doing.new result (step_done (assigns_view variables.now) (step_view step.now) d) }
+{
+    match step {
+        Step::Assign { name, value } => {
+            let value = value_of(alloc, doing, variables, assigns, value)?;
+            give(alloc, name, value, doing)?;
+            Ok(())
+        }
+        Step::When { test, yes, no } => {
+            let value = value_of(alloc, doing, variables, assigns, test)?;
+            if is_true(&value) {
+                do_steps(alloc, yes, variables, assigns, doing)
+            } else {
+                do_steps(alloc, no, variables, assigns, doing)
+            }
+        }
     }
+}
+
+// Does steps, one after the other.
+#[cycle(steps)]
+fn do_steps(
+    alloc: Global,
+    steps: &Steps,
+    variables: &Assigns,
+    assigns: &Assigns,
+    doing: &mut Doing,
+) -> Result<(), ViewFault>
+    ensures { (d : Done) → Stands (assigns_view assigns.now) doing.old d
+        → Does (assigns_view assigns.now) doing.new result (steps_done (assigns_view variables.now) (steps_view steps.now) d) }
+{
+    'steps: for step in steps.as_slice() {
+        do_step(alloc, step, variables, assigns, doing)?;
+    }
+    Ok(())
+}
+
+/// The effects of steps where these variables and assigns are in scope; each step sees the assigns as the earlier ones
+/// left them. Raised where an expression raises.
+pub fn effects_of(
+    alloc: Global,
+    steps: &Steps,
+    variables: &Assigns,
+    assigns: &Assigns,
+) -> Result<Effects, ViewFault>
+    ensures { Means result (effects_of (assigns_view variables.now) (assigns_view assigns.now) (steps_view steps.now)) }
+{
+    let mut doing = Doing {
+        given: ByKey::new(alloc),
+        effects: Seq::new(alloc),
+    };
+    do_steps(alloc, steps, variables, assigns, &mut doing)?;
+    let Doing {
+        given: _given,
+        effects,
+    } = doing;
     Ok(effects)
 }

@@ -9,7 +9,7 @@ use value_core::{Assigns, Value, to_text};
 use view_api::{Effect, Effects, Owner, ViewFault, Views};
 
 const MANIFEST: &str =
-    "{\"version\":1,\"views\":[{\"path\":\"/\",\"template\":\"t\",\"mount\":[[\"assign\",\"n\",\"7\"],[\"assign\",\"m\",\"0\"]],\"events\":{\"up\":[[\"assign\",\"n\",\"@n + 1\"]],\"down\":[[\"assign\",\"n\",\"@n - 1\"]],\"swap\":[[\"assign\",\"m\",\"@n\"],[\"assign\",\"n\",\"@m - 2\"],[\"assign\",\"n\",\"@n + 5\"]],\"set\":[[\"assign\",\"m\",\"3\"]],\"none\":[]}}]}";
+    "{\"version\":1,\"views\":[{\"path\":\"/\",\"template\":\"t\",\"mount\":[[\"assign\",\"n\",\"params.n\"],[\"assign\",\"m\",\"@n + 1\"]],\"events\":{\"up\":[[\"assign\",\"n\",\"@n + 1\"]],\"swap\":[[\"assign\",\"m\",\"@n\"],[\"assign\",\"n\",\"@m - 2\"]],\"pick\":[[\"when\",\"@n > 4\",[[\"assign\",\"high\",\"@n\"]],[[\"assign\",\"low\",\"@n\"]]]],\"add\":[[\"assign\",\"n\",\"@n + value.by\"]],\"none\":[]}}]}";
 
 fn views(alloc: Global) -> Result<ScriptViews, Fail> {
     let mut files = ByKey::new(alloc);
@@ -52,32 +52,33 @@ fn assigns(alloc: Global, n: Option<i64>) -> Result<Assigns, OutOfMemory> {
     Ok(assigns)
 }
 
+// A map of one number.
+fn map_of(alloc: Global, key: &str, number: i64) -> Result<Value, OutOfMemory> {
+    let mut entries = ByKey::new(alloc);
+    entries.insert(Text::copy_of(alloc, key)?, Value::Int(number))?;
+    Ok(Value::Map(entries))
+}
+
 #[test]
 fn events(rt: HostRuntime) -> Result<(), Fail> {
     let alloc = rt.alloc();
     let views = views(alloc)?;
+    let value = map_of(alloc, "by", 3)?;
     for (event, n, effects) in [
         ("up", Some(7), "n=8;"),
-        ("up", Some(9223372036854775806), "n=9223372036854775807;"),
         ("up", Some(9223372036854775807), "raised"),
-        ("down", Some(0), "n=-1;"),
-        (
-            "down",
-            Some(-9223372036854775807),
-            "n=-9223372036854775808;",
-        ),
-        ("down", Some(-9223372036854775808), "raised"),
-        ("swap", Some(4), "m=4;n=2;n=7;"),
-        ("swap", Some(-9223372036854775807), "raised"),
         ("up", None, "raised"),
-        ("swap", None, "raised"),
-        ("set", None, "m=3;"),
+        ("swap", Some(4), "m=4;n=2;"),
+        ("swap", Some(-9223372036854775807), "raised"),
+        ("pick", Some(5), "high=5;"),
+        ("pick", Some(4), "low=4;"),
+        ("add", Some(7), "n=10;"),
         ("none", None, ""),
         ("other", Some(7), "raised"),
     ] {
         let event = Text::copy_of(alloc, event)?;
         let assigns = assigns(alloc, n)?;
-        let answer = views.handle_event(alloc, Owner::View(0), &event, &Value::Nil, &assigns);
+        let answer = views.handle_event(alloc, Owner::View(0), &event, &value, &assigns);
         assert_eq!(rt; shown(alloc, answer)?.as_str(), effects);
     }
     Ok(())
@@ -87,23 +88,28 @@ fn events(rt: HostRuntime) -> Result<(), Fail> {
 fn other_handlers(rt: HostRuntime) -> Result<(), Fail> {
     let alloc = rt.alloc();
     let views = views(alloc)?;
-    let set = Text::copy_of(alloc, "set")?;
-    let none = assigns(alloc, None)?;
-    for (view, mounted, rest) in [(0, "n=7;m=0;", ""), (1, "raised", "raised")] {
-        let answer = views.mount(alloc, view, &Value::Nil);
+    let none = Text::copy_of(alloc, "none")?;
+    let assigns = assigns(alloc, None)?;
+    for (view, params, mounted, rest) in [
+        (0, "n", "n=7;m=8;", ""),
+        (0, "m", "raised", ""),
+        (1, "n", "raised", "raised"),
+    ] {
+        let params = map_of(alloc, params, 7)?;
+        let answer = views.mount(alloc, view, &params);
         assert_eq!(rt; shown(alloc, answer)?.as_str(), mounted);
-        let answer = views.handle_params(alloc, view, &Value::Nil, &none);
+        let answer = views.handle_params(alloc, view, &params, &assigns);
         assert_eq!(rt; shown(alloc, answer)?.as_str(), rest);
-        let answer = views.handle_info(alloc, view, &Value::Nil, &none);
+        let answer = views.handle_info(alloc, view, &params, &assigns);
         assert_eq!(rt; shown(alloc, answer)?.as_str(), rest);
     }
     for owner in [Owner::View(1), Owner::Component(0)] {
-        let answer = views.handle_event(alloc, owner, &set, &Value::Nil, &none);
+        let answer = views.handle_event(alloc, owner, &none, &Value::Nil, &assigns);
         assert_eq!(rt; shown(alloc, answer)?.as_str(), "raised");
     }
     let answer = views.mount_component(alloc, 0);
     assert_eq!(rt; shown(alloc, answer)?.as_str(), "raised");
-    let answer = views.update_component(alloc, 0, &none, &none);
+    let answer = views.update_component(alloc, 0, &assigns, &assigns);
     assert_eq!(rt; shown(alloc, answer)?.as_str(), "raised");
     Ok(())
 }

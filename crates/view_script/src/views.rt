@@ -1,15 +1,14 @@
 //! Views by the steps of a manifest.
-ghost use Rattle.std.specs.Prelude.{◌≡◌, Some, None, [], ◌==◌, if◌then◌else◌};
-ghost use Rattle.value_core.specs.View.{assigns_view};
+ghost use Rattle.std.specs.Prelude.{◌≡◌, IfOk};
+ghost use Rattle.value_core.specs.View.{view as value_view, assigns_view};
 ghost use Rattle.view_api.specs.View.{Means};
-ghost use Rattle.view_script.specs.Script.{effects_of};
-ghost use Rattle.view_script.specs.Views.{script_of, begun, nothing_done, taken, meaning_of_script};
+ghost use Rattle.view_script.specs.Views.{script_of, variable, begun, nothing_done, taken, meaning_of_script};
 
 use crate::script::effects_of;
 use bundle_files::{Events, Steps};
 use std::alloc::Global;
-use text_core::{ByKey, Seq, Text};
-use value_core::{Assigns, Value};
+use text_core::{ByKey, OutOfMemory, Seq, Text};
+use value_core::{Assigns, Value, copy};
 use view_api::{Effects, Owner, ViewFault, Views};
 
 /// One view, number 0, whose handlers are steps: at its mount, and at each event that it knows. It does nothing at
@@ -38,14 +37,29 @@ fn nothing_done(alloc: Global, view: u32) -> Result<Effects, ViewFault>
     Ok(Seq::new(alloc))
 }
 
-fn begun(alloc: Global, views: &ScriptViews, view: u32) -> Result<Effects, ViewFault>
-    ensures { Means result (begun views.now view) }
+// The one variable of a handler.
+fn variable(alloc: Global, name: &str, value: &Value) -> Result<Assigns, OutOfMemory>
+    ensures { IfOk result (λ as'. assigns_view as' ≡ variable name.now (value_view value.now)) }
+{
+    let mut variables = ByKey::new(alloc);
+    variables.insert(Text::copy_of(alloc, name)?, copy(alloc, value)?)?;
+    Ok(variables)
+}
+
+fn begun(
+    alloc: Global,
+    views: &ScriptViews,
+    view: u32,
+    params: &Value,
+) -> Result<Effects, ViewFault>
+    ensures { Means result (begun views.now view (value_view params.now)) }
 {
     if view != 0 {
         return Err(ViewFault::Raised);
     }
     let assigns = ByKey::new(alloc);
-    effects_of(alloc, views.mount.as_slice(), &assigns)
+    let variables = variable(alloc, "params", params)?;
+    effects_of(alloc, &views.mount, &variables, &assigns)
 }
 
 fn taken(
@@ -53,9 +67,10 @@ fn taken(
     views: &ScriptViews,
     owner: Owner,
     event: &Text,
+    value: &Value,
     assigns: &Assigns,
 ) -> Result<Effects, ViewFault>
-    ensures { Means result (taken views.now owner event.now (assigns_view assigns.now)) }
+    ensures { Means result (taken views.now owner event.now (value_view value.now) (assigns_view assigns.now)) }
 {
     let Owner::View(view) = owner else {
         return Err(ViewFault::Raised);
@@ -64,7 +79,10 @@ fn taken(
         return Err(ViewFault::Raised);
     }
     match views.events.get(event.as_str()) {
-        Some(steps) => effects_of(alloc, steps.as_slice(), assigns),
+        Some(steps) => {
+            let variables = variable(alloc, "value", value)?;
+            effects_of(alloc, steps, &variables, assigns)
+        }
         None => Err(ViewFault::Raised),
     }
 }
@@ -72,8 +90,8 @@ fn taken(
 impl Views for ScriptViews {
     ghost meaning = { meaning_of_script };
 
-    fn mount(&self, alloc: Global, view: u32, _params: &Value) -> Result<Effects, ViewFault> {
-        begun(alloc, self, view)
+    fn mount(&self, alloc: Global, view: u32, params: &Value) -> Result<Effects, ViewFault> {
+        begun(alloc, self, view, params)
     }
 
     fn handle_params(
@@ -91,10 +109,10 @@ impl Views for ScriptViews {
         alloc: Global,
         owner: Owner,
         event: &Text,
-        _value: &Value,
+        value: &Value,
         assigns: &Assigns,
     ) -> Result<Effects, ViewFault> {
-        taken(alloc, self, owner, event, assigns)
+        taken(alloc, self, owner, event, value, assigns)
     }
 
     fn handle_info(

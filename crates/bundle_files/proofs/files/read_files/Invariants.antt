@@ -1,4 +1,4 @@
-use Rattle.std.proofs.Common.{◌≡◌, ◌≤◌, ◌++◌, map, take}
+use Rattle.std.proofs.Common.{◌≡◌, ◌≤◌, map, take}
 use Rattle.std.specs.Option.{IfSome}
 use Rattle.bundle_files.specs.Held.{AllHold}
 use Rattle.bundle_files.proofs.files.read_files.Given as goal

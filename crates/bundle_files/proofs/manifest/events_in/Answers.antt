@@ -1,8 +1,9 @@
-use Rattle.std.proofs.Common.{◌≡◌, ◌++◌, ◌∷◌, option_map, sym, ap, ◌∙◌, true}
+use Rattle.std.proofs.Common.{◌≡◌, ◌++◌, ◌∷◌, option_map, sym, ap, ◌∙◌}
 use Rattle.text_core.specs.Keyed.{keys, ascend}
 use Rattle.value_core.proofs.Order.{goes_last, goes_on}
 use Rattle.value_core.proofs.FromJson.{member_keys, sorted_ascends}
 use Rattle.serde_json.specs.View.{members_view}
+use Rattle.bundle_files.specs.StepsView.{steps_view, events_view}
 use Rattle.bundle_files.specs.Manifest.{events_in}
 use Rattle.bundle_files.proofs.Listed.{no_events, events_on}
 use Rattle.bundle_files.proofs.manifest.events_in.Goals as goal
@@ -25,8 +26,8 @@ push_last-requires c =
 pub loop-name-preserved : goal.loop-name-preserved
 loop-name-preserved c = record {
   so_far = events_on c.in-Some.name.now c.in-Some.member.now c.next.new.self c.loop-name.events c.push_last.new.self c.in_ok-copy_of.field-0 c.in-Some-2.steps _
-      (c.in_ok-copy_of.ensures ∙ c.as_str.ensures.value) (sym c.in_ok-steps.ensures ∙ c.in-Some-2.is) c.in_ok-push_last.ensures.ok
-      (ap (λ ms. option_map (λ more. c.loop-name.events ++ more) (events_in (members_view ms))) (sym c.in-Some.ensures.steps) ∙ c.loop-name.invariant.so_far);
+      (c.in_ok-copy_of.ensures ∙ c.as_str.ensures.value) (sym c.in_ok-steps.ensures ∙ ap (option_map steps_view) c.in-Some-2.is) c.in_ok-push_last.ensures.ok
+      (ap (λ ms. option_map (λ more. events_view c.loop-name.events ++ more) (events_in (members_view ms))) (sym c.in-Some.ensures.steps) ∙ c.loop-name.invariant.so_far);
   in_order = ap (λ l. ascend (keys l ++ member_keys c.next.new.self)) c.in_ok-push_last.ensures.ok
       ∙ goes_on c.loop-name.events c.in_ok-copy_of.field-0 c.in-Some-2.steps (member_keys c.next.new.self)
       (ap (λ k. ascend (keys c.loop-name.events ++ k ∷ member_keys c.next.new.self)) (c.in_ok-copy_of.ensures ∙ c.as_str.ensures.value)

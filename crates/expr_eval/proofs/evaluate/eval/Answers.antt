@@ -1,17 +1,15 @@
-use Rattle.std.proofs.Common.{refl}
+use Rattle.std.proofs.Common.{List, subst}
+use Rattle.text_core.specs.declared.by_key.KeyValue.{KeyValue}
 use Rattle.value_core.specs.View.{view}
+use Rattle.value_core.specs.declared.value.Value.{Value}
 use Rattle.ast_core.specs.ExprView.{expr_view}
-use Rattle.ast_core.specs.Free.{free_names}
 use Rattle.doc_model.specs.Evaluation.{eval_expr}
-use Rattle.doc_model.proofs.Names.{agree_same, eval_agrees}
-use Rattle.expr_eval.specs.Scope.{env_of, env_with}
-use Rattle.expr_eval.proofs.Results.{gives_as}
+use Rattle.expr_eval.specs.Gives.{Gives}
+use Rattle.expr_eval.specs.Scope.{env_over}
 use Rattle.expr_eval.proofs.evaluate.eval.Goals as goal
 
--- no expression reads streams or components
+-- nothing stands over the assigns
 pub returns : goal.returns
 returns c = λ streams components.
-    let e = expr_view c.args.expr.now in
-    let a = env_with c.args.assigns.now c.args.variables.now streams components in
-    let b = env_of c.args.assigns.now c.args.variables.now in
-    gives_as view c.value_of.result (eval_expr a e) (eval_expr b e) (eval_agrees e a b (agree_same a b (free_names e) refl refl)) c.value_of.ensures
+    subst (λ (given : List (KeyValue Value)). Gives view c.eval_over.result (eval_expr (env_over given c.args.assigns.now c.args.variables.now streams components) (expr_view c.args.expr.now)))
+    c.new-given.ensures (c.eval_over.ensures streams components)

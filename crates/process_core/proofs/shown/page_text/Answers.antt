@@ -1,7 +1,8 @@
-use Rattle.std.proofs.Common.{Option, List, sym, ap, ◌∙◌, subst}
+use Rattle.std.proofs.Common.{Option, Ok, List, subst}
 use Rattle.text_core.specs.declared.by_key.KeyValue.{KeyValue}
 use Rattle.value_core.specs.declared.value.Value.{Value}
-use Rattle.slot_compile.specs.Rendering.{full_render}
+use Rattle.value_core.specs.View.{assigns_view}
+use Rattle.diff_render.specs.Renders.{IsRendering}
 use Rattle.process_core.specs.declared.process.Up.{Up}
 use Rattle.process_core.specs.Kept.{UpStands}
 use Rattle.process_core.proofs.Texts.{shows_text}
@@ -9,7 +10,8 @@ use Rattle.process_core.proofs.shown.page_text.Goals as goal
 
 pub returns-in_ok-text-in-Some : goal.returns-in_ok-text-in-Some
 returns-in_ok-text-in-Some g c s keeps =
-    let ns = c.args.app.now.compiled in
-    shows_text g.V.Views.meaning c.args.app.now c.in-Some.up s.page c.in_ok-text-in-Some.text
-    (subst (λ (u : Option Up). UpStands ns u s.page) c.in-Some.is keeps.up)
-    (sym (ap (λ (l : List (KeyValue Value)). full_render l ns) c.assigns.ensures) ∙ c.in_ok-text-in-Some.ensures)
+    let template = c.args.app.now.compiled in
+    let text = c.in_ok-text-in-Some.text in
+    shows_text g.V.Views.meaning c.args.app.now c.in-Some.up s.page text
+    (subst (λ (u : Option Up). UpStands template u s.page) c.in-Some.is keeps.up)
+    (subst (λ (l : List (KeyValue Value)). IsRendering template (assigns_view l) (Ok text)) c.assigns.ensures c.in_ok-text-in-Some.ensures)

@@ -1,6 +1,5 @@
 use Rattle.slot_compile.proofs.Syntax.{cuts_syntax}
 use Rattle.slot_compile.proofs.laws.cuts_syntax.Goals as goal
 
--- src/laws.rt:6:1
 pub returns : goal.returns
 returns c = cuts_syntax

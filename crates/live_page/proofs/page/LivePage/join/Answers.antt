@@ -1,14 +1,13 @@
-use Rattle.std.proofs.Common.{◌≡◌, List, [], Some, Ok, Err, refl, sym, ap, ◌∙◌, subst, rules}
+use Rattle.std.proofs.Common.{List, Ok, Err, sym, ap, ◌∙◌, subst, rules}
 use Rattle.text_core.specs.declared.by_key.KeyValue.{KeyValue}
-use Rattle.value_core.specs.Value.{no_assigns}
-use Rattle.value_core.specs.View.{view, assigns_view}
+use Rattle.value_core.specs.View.{assigns_view}
 use Rattle.value_core.specs.declared.value.Value.{Value}
 use Rattle.view_api.specs.View.{effects_view, Means}
 use Rattle.effects_apply.specs.Applied.{rest_view, Becomes, applied_view}
 use Rattle.doc_model.specs.Effects.{apply_effects, empty_stream}
 use Rattle.diff_render.specs.Renders.{Renders, present, whole_json}
 use Rattle.live_page.specs.World.{destination_view}
-use Rattle.live_page.proofs.Joined.{applied, then_asked, joins, mount_fault, params_fault, begun_fault, first_fault}
+use Rattle.live_page.proofs.Joined.{then_asked, joins, mount_fault, params_fault, begun_fault, first_fault}
 use Rattle.live_page.proofs.Turned.{leaves_page}
 use Rattle.live_page.proofs.page.LivePage.join.Goals as goal
 

@@ -1,9 +1,7 @@
-use Rattle.std.proofs.Common.{◌≡◌, Ok, Err, refl, sym, ap, ◌∙◌, rules}
+use Rattle.std.proofs.Common.{rules}
 use Rattle.view_api.specs.View.{effects_view}
 use Rattle.effects_apply.specs.Applied.{rest_view}
 use Rattle.diff_render.specs.Renders.{present, lean_json}
-use Rattle.diff_render.specs.declared.fault.RenderFault.TheVariants as render
-use Rattle.live_page.specs.Page.{Turns}
 use Rattle.live_page.proofs.Turned.{leaves_page, turned, turn_fault, still_settled}
 use Rattle.live_page.proofs.page.LivePage.turn.Goals as goal
 

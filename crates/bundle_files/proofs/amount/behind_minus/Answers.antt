@@ -1,6 +1,0 @@
-use Rattle.std.proofs.Common.{codes}
-use Rattle.slot_compile.proofs.Tags.{strips_front}
-use Rattle.bundle_files.proofs.amount.behind_minus.Goals as goal
-
-pub returns : goal.returns
-returns c = strips_front (codes "- ") c.args.text.now c.strip_prefix.result c.strip_prefix.ensures.cases

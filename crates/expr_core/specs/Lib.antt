@@ -1,0 +1,13 @@
+pub mod Language
+pub mod Outcome
+pub mod Functions
+pub mod Grammar
+pub mod Machine
+pub mod PatternGrammar
+pub mod PatternMachine
+pub mod Answers
+pub mod Seen
+pub mod Gives
+pub mod SeenPattern
+pub mod Gathers
+pub mod Lines

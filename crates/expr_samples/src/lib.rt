@@ -1,0 +1,5 @@
+//! Texts of expressions, and what they come to by the reader and the evaluator together. There is nothing here but tests.
+#![tactic(auto)]
+
+#[cfg(test)]
+mod tests;

@@ -1,0 +1,4 @@
+pub mod Formula
+pub mod Pieces
+pub mod Parts
+pub mod Reading

@@ -1,0 +1,12 @@
+//! The reader of templates of texts and interpolations, and of the expressions in bundles.
+#![tactic(auto)]
+
+mod formula;
+mod laws;
+mod template;
+#[cfg(test)]
+mod tests;
+
+pub use formula::read_formula;
+pub use laws::{formulas_are_spelled, templates_are_spelled};
+pub use template::read_template;
