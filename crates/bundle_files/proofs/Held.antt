@@ -8,7 +8,7 @@ use Rattle.std.proofs.lemmas.List.{length-take, take_all, take_more, length-map}
 use Rattle.text_core.specs.Outside.{content_of, Holds}
 use Rattle.bundle_files.specs.Held.{AllHold}
 use Rattle.bundle_files.specs.Bundle.{Bundle, small_file, template_in, bundle_of, bundle_with}
-use Rattle.template_reader.specs.Pieces.{Pieces}
+use Rattle.ast_core.specs.Syntax.{Nodes}
 use Rattle.bundle_files.specs.Manifest.{Manifest, manifest_in}
 
 pub held_snoc : (fs files : List (List ℕ × List ℕ)) (f : List ℕ × List ℕ) → AllHold fs files → Holds f.0 1048576 f.1 fs → AllHold fs (files ++ f ∷ [])
@@ -79,7 +79,7 @@ lengths fs files e = sym (length-map files (λ f. f.0)) ∙ (ap length e ∙ len
 cond_same : {X : Type 0} (b c : Bool) (x y z : X) → b ≡ c → x ≡ y → cond b x z ≡ cond c y z
 cond_same b c x y z e h = rw (e, h)
 
-abbrev with_template : Manifest → Pieces → Bundle
+abbrev with_template : Manifest → Nodes → Bundle
 with_template m t = record { template = t; mount = m.mount; events = m.events }
 
 same : (fs files : List (List ℕ × List ℕ)) → AllHold fs files → map (λ f. f.0) files ≡ map (λ f. f.0) fs → bundle_of files ≡ bundle_of fs

@@ -3,12 +3,11 @@ use Rattle.std.proofs.Common.{◌≡◌, ℕ, List, Bool, true, false, Option, N
 use Rattle.std.specs.Str.{IsUtf8, is_utf8}
 use Rattle.std.proofs.lemmas.Str.{IsUtf8-from_is_utf8, is_utf8-from_IsUtf8}
 use Rattle.text_core.specs.declared.memory.OutOfMemory.{OutOfMemory}
-use Rattle.slot_compile.specs.declared.compiled.Compiled.{Compiled}
-use Rattle.template_reader.specs.Pieces.{pieces_in}
+use Rattle.slot_compile.specs.Template.{Source, syntax_of}
 use Rattle.template_reader.specs.Reading.{template_of}
 use Rattle.bundle_files.specs.Bundle.{template_in}
 
-pub template_is : (bytes text : List ℕ) (r : Result (Option Compiled) OutOfMemory) → text ≡ bytes → IsUtf8 bytes → IfOk r (λ c. option_map pieces_in c ≡ template_of text) → IfOk r (λ c. option_map pieces_in c ≡ template_in bytes)
+pub template_is : (bytes text : List ℕ) (r : Result (Option Source) OutOfMemory) → text ≡ bytes → IsUtf8 bytes → IfOk r (λ c. option_map syntax_of c ≡ template_of text) → IfOk r (λ c. option_map syntax_of c ≡ template_in bytes)
 template_is bytes text (Ok c) e u h = let b = is_utf8-from_IsUtf8 bytes u in rw b (h ∙ ap template_of e)
 template_is bytes text (Err f) e u h = tt
 

@@ -4,7 +4,8 @@ use Rattle.std.specs.Prelude.{ℕ, List, ◌++◌, length, codes, ◌==◌, nat_
 use Rattle.std.specs.Str.{is_utf8}
 use Rattle.text_core.specs.Outside.{content_of}
 use Rattle.text_core.specs.declared.by_key.KeyValue.{KeyValue}
-use Rattle.template_reader.specs.Pieces.{Pieces, pieces_in}
+use Rattle.ast_core.specs.Syntax.{Nodes}
+use Rattle.slot_compile.specs.Template.{syntax_of}
 use Rattle.template_reader.specs.Reading.{template_of}
 use Rattle.bundle_files.specs.Steps.{Steps}
 use Rattle.bundle_files.specs.StepsView.{steps_view, events_view}
@@ -13,20 +14,20 @@ use Rattle.bundle_files.specs.Manifest.{Manifest, manifest_in}
 
 -- a bundle: the template of its view, what the view does when it is mounted, and what it does at its events
 pub record Bundle : Type 0 where
-  pub template : Pieces
+  pub template : Nodes
   pub mount : Steps
   pub events : List (KeyValue Steps)
 
 -- what the program's bundle stands for
 abbrev pub bundle_view : program.Bundle → Bundle
-bundle_view b = record { template = pieces_in b.compiled; mount = steps_view b.mount; events = events_view b.events }
+bundle_view b = record { template = syntax_of b.compiled; mount = steps_view b.mount; events = events_view b.events }
 
 -- the bytes of the file of that name, where it is there and not too large
 abbrev pub small_file : List ℕ → List (List ℕ × List ℕ) → Option (List ℕ)
 small_file name fs = option_and_then (λ bytes. if nat_le (length bytes) 1048576 then Some bytes else None) (content_of name fs)
 
--- the pieces of a template in UTF-8
-abbrev pub template_in : List ℕ → Option Pieces
+-- the template of bytes in UTF-8
+abbrev pub template_in : List ℕ → Option Nodes
 template_in bytes = if is_utf8 bytes then template_of bytes else None
 
 -- the bundle of a manifest and the template that it names

@@ -1,7 +1,7 @@
 //! The loader of bundles.
 ghost use Rattle.std.specs.Prelude.{◌≡◌, ◌≤◌, IfOk, IfSome, Some, None, Err, option_map, option_and_then};
 ghost use Rattle.text_core.specs.Outside.{Rose};
-ghost use Rattle.template_reader.specs.Pieces.{pieces_in};
+ghost use Rattle.slot_compile.specs.Template.{syntax_of};
 ghost use Rattle.bundle_files.specs.ManifestView.{manifest_view};
 ghost use Rattle.bundle_files.specs.Bundle.{bundle_view, small_file, template_in, bundle_with, bundle_of};
 
@@ -19,7 +19,7 @@ const MOST_FILES: usize = 256;
 
 // The template of bytes in UTF-8.
 fn template_in(alloc: Global, bytes: &[u8]) -> Result<Option<Compiled>, OutOfMemory>
-    ensures { IfOk result (λ c. option_map pieces_in c ≡ template_in bytes.now) }
+    ensures { IfOk result (λ c. option_map syntax_of c ≡ template_in bytes.now) }
 {
     match str::from_utf8(bytes) {
         Ok(text) => read_template(alloc, text),
@@ -33,7 +33,7 @@ fn template_at(
     files: &[(Text, Bytes)],
     name: &str,
 ) -> Result<Option<Compiled>, OutOfMemory>
-    ensures { IfOk result (λ c. option_map pieces_in c ≡ option_and_then template_in (small_file name.now files.now)) }
+    ensures { IfOk result (λ c. option_map syntax_of c ≡ option_and_then template_in (small_file name.now files.now)) }
 {
     match small_file(files, name) {
         Some(source) => template_in(alloc, source),
@@ -57,11 +57,14 @@ fn bundle_with(
     let mut name = template;
     name.push_str(".html.heex")?;
     match template_at(alloc, files, name.as_str())? {
-        Some(compiled) => Ok(Some(Bundle {
-            compiled,
-            mount,
-            events,
-        })),
+        Some(compiled) => {
+            compiled.places_are_flat();
+            Ok(Some(Bundle {
+                compiled,
+                mount,
+                events,
+            }))
+        }
         None => Ok(None),
     }
 }

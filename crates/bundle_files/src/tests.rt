@@ -34,6 +34,16 @@ fn fault_of_manifest(alloc: Global, manifest: &str) -> Result<Option<LoadFault>,
     )
 }
 
+fn fault_of_template(alloc: Global, template: &str) -> Result<Option<LoadFault>, OutOfMemory> {
+    fault(
+        alloc,
+        &[
+            ("bundle.json", MANIFEST.as_bytes()),
+            ("home.html.heex", template.as_bytes()),
+        ],
+    )
+}
+
 // Writes the name of a step, or both lists of a choice.
 #[cycle(shown)]
 fn show_step(step: &Step, shown: &mut String) -> Result<(), OutOfMemory> {
@@ -79,8 +89,11 @@ fn hello_is_loaded(rt: HostRuntime) -> Result<(), Fail> {
         mount,
         events,
     } = load(alloc, &mut folder)?;
-    assert_eq!(rt; compiled.interpolations.len(), 1);
-    assert_eq!(rt; compiled.last.as_str(), "</p>");
+    assert_eq!(rt; compiled.dynamics().len(), 1);
+    assert_eq!(rt;
+        compiled.statics().last().map(|text| text.as_str()),
+        Some("</p>")
+    );
     assert_eq!(rt; events.len(), 0);
     let mut shown = String::new(alloc);
     show_steps(&mount, &mut shown)?;
@@ -115,6 +128,20 @@ fn manifests(rt: HostRuntime) -> Result<(), Fail> {
         ),
     ] {
         assert_eq!(rt; fault_of_manifest(alloc, manifest)?, fault);
+    }
+    Ok(())
+}
+
+#[test]
+fn templates(rt: HostRuntime) -> Result<(), Fail> {
+    let alloc = rt.alloc();
+    for (template, fault) in [
+        ("<b>{@n}</b><br>", None),
+        ("<b class={@n} title='x' {@m}>y</b>", None),
+        ("<b class={@streams.m}>y</b>", Some(LoadFault::Refused)),
+        ("<.card />", Some(LoadFault::Refused)),
+    ] {
+        assert_eq!(rt; fault_of_template(alloc, template)?, fault, "of {template}");
     }
     Ok(())
 }

@@ -11,9 +11,8 @@ use Rattle.serde_json.specs.Find.{get, as_str, as_object, as_number, as_u64}
 use Rattle.text_core.specs.declared.by_key.KeyValue.{KeyValue}
 use Rattle.text_core.specs.Keyed.{entry}
 use Rattle.text_core.specs.Outside.{content_of}
-use Rattle.ast_core.specs.Syntax.{Expr}
+use Rattle.ast_core.specs.Syntax.{Expr, Nodes}
 use Rattle.template_reader.specs.Formula.{formula_of}
-use Rattle.template_reader.specs.Pieces.{Pieces}
 use Rattle.template_reader.specs.Reading.{template_of}
 use Rattle.template_reader.proofs.Formulas.{formulas_are_spelled}
 use Rattle.template_reader.proofs.Readings.{templates_are_spelled}
@@ -407,7 +406,7 @@ small_is x fs m h l = ap (option_and_then (λ (bytes : List ℕ). cond (nat_le (
 
 -- ---- a bundle
 
-abbrev bundle : Pieces → Steps → List (KeyValue Steps) → Bundle
+abbrev bundle : Nodes → Steps → List (KeyValue Steps) → Bundle
 bundle template mount events = record { template = template; mount = mount; events = events }
 
 bundle_spells : (fs : List (List ℕ × List ℕ)) (b : Bundle) → bundle_of fs ≡ Some b → SpellsBundle fs b
@@ -416,7 +415,7 @@ bundle_spells fs b h =
     let m = and_then_parts (bundle_with fs) (option_and_then manifest_in (small_file (codes "bundle.json") fs)) b c.1 in
     let i = and_then_parts manifest_in (small_file (codes "bundle.json") fs) m.0 m.1 in
     let name : List ℕ = m.0.template ++ codes ".html.heex" in
-    let t = map_parts (λ (p : Pieces). bundle p m.0.mount m.0.events) (option_and_then template_in (small_file name fs)) b m.2 in
+    let t = map_parts (λ (p : Nodes). bundle p m.0.mount m.0.events) (option_and_then template_in (small_file name fs)) b m.2 in
     let s = and_then_parts template_in (small_file name fs) t.0 t.1 in
     let mf = small_parts (codes "bundle.json") fs i.0 i.1 in
     let sf = small_parts name fs s.0 s.1 in
@@ -444,7 +443,7 @@ bundle_is fs b r =
     let said : option_and_then manifest_in (small_file (codes "bundle.json") fs) ≡ Some (manifest r.template b.mount b.events) = ap (option_and_then manifest_in) m ∙ manifest_is r.manifest r.template b.mount b.events r.says in
     let two : (length fs == 2) ≡ true = ap (λ (k : ℕ). k == 2) c.0 in
     if_true (length fs == 2) (option_and_then (bundle_with fs) (option_and_then manifest_in (small_file (codes "bundle.json") fs))) None two
-    ∙ ap (option_and_then (bundle_with fs)) said ∙ ap (option_map (λ (p : Pieces). bundle p b.mount b.events)) (ap (option_and_then template_in) s ∙ read_as)
+    ∙ ap (option_and_then (bundle_with fs)) said ∙ ap (option_map (λ (p : Nodes). bundle p b.mount b.events)) (ap (option_and_then template_in) s ∙ read_as)
 
 pub bundles_are_spelled : BundlesAreSpelled
 bundles_are_spelled fs b = (bundle_spells fs b, bundle_is fs b)

@@ -6,7 +6,7 @@ use Rattle.serde_json.specs.Read.{read}
 use Rattle.serde_json.specs.Find.{get}
 use Rattle.text_core.specs.declared.by_key.KeyValue.{KeyValue}
 use Rattle.template_reader.specs.Formula.{SpellsFormula}
-use Rattle.template_reader.specs.Pieces.{SpellsTemplate}
+use Rattle.template_reader.specs.Reading.{SpellsTemplate}
 use Rattle.bundle_files.specs.Steps.{Step, assign_step, when_step, Steps, no_steps, step}
 use Rattle.bundle_files.specs.Manifest.{count_of, is_template_name, view_members}
 use Rattle.bundle_files.specs.Bundle.{Bundle, bundle_of}

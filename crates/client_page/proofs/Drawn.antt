@@ -8,8 +8,8 @@ use Rattle.value_core.specs.Nesting.{depth_of}
 use Rattle.value_core.specs.declared.raise.Raise.TheVariants.{BadArgument, Deep, InboxFull}
 use Rattle.view_api.specs.Effect.{Effect, assign_to, stream_insert, stream_delete, stream_reset, subscribe, unsubscribe, publish, send_self, push_event}
 use Rattle.wire_v2.proofs.NoFloat.{written_whole}
+use Rattle.ast_core.specs.Places.{places_in}
 use Rattle.diff_tree.specs.Spelling.{Pushed}
-use Rattle.slot_compile.specs.Template.{values_of}
 use Rattle.doc_model.specs.Environment.{Component}
 use Rattle.doc_model.specs.Evaluation.{Res, then_do, on_res, or_raise}
 use Rattle.doc_model.specs.Trace.{Items}
@@ -93,16 +93,14 @@ abbrev outcome_of : World → ℕ → Option (List ℕ) → List ℕ → Turning
 outcome_of w v j t s x = record { page = page_of w v j t s x.0 x.1; rest = x.1.rest }
 
 module _ (w : World) (texts : IsTextWorld w) where
-  pub drawn_texts : (v : ℕ) (s : Turning) → On (Rendered (values_of (texts.templates v)) (walk_before s)) (render_state (views_of w.views) w.site levels (scope_before s) (w.template_of v) (walk_before s))
-  drawn_texts v s =
-      subst (λ ns. On (Rendered (values_of (texts.templates v)) (walk_before s)) (render_state (views_of w.views) w.site levels (scope_before s) ns (walk_before s))) (sym (texts.template_is v))
-      (renders_texts Rest (views_of w.views) w.site levels (scope_before s) (texts.templates v) (walk_before s))
+  pub drawn_texts : (v : ℕ) (s : Turning) → On (Rendered (places_in (w.template_of v)) (walk_before s)) (render_state (views_of w.views) w.site levels (scope_before s) (w.template_of v) (walk_before s))
+  drawn_texts v s = renders_texts Rest (views_of w.views) w.site levels (scope_before s) (w.template_of v) (walk_before s) (texts.flat v)
 
   rendered_whole : (v : ℕ) (j : Option (List ℕ)) (t : List ℕ) (s : Turning) → RestWhole s.rest → On OutcomeWhole (rendered_page w v j t s)
   rendered_whole v j t s h =
       let r : Res (Items × Walk Rest) = render_state (views_of w.views) w.site levels (scope_before s) (w.template_of v) (walk_before s) in
       on_made OutcomeWhole (outcome_of w v j t s) r
-      (on_weaker (Rendered (values_of (texts.templates v)) (walk_before s)) (λ (x : Items × Walk Rest). OutcomeWhole (outcome_of w v j t s x)) r (λ x e. subst RestWhole (sym e.1) h) (drawn_texts v s))
+      (on_weaker (Rendered (places_in (w.template_of v)) (walk_before s)) (λ (x : Items × Walk Rest). OutcomeWhole (outcome_of w v j t s x)) r (λ x e. subst RestWhole (sym e.1) h) (drawn_texts v s))
 
   pub view_whole : (p : Page) (es : Option (List Effect)) (rest : Rest) → RestWhole rest → On OutcomeWhole (view_turn w p es rest)
   view_whole p es rest h =

@@ -1,15 +1,11 @@
 -- What a process of a world of texts sends is JSON of frames.
-use Rattle.std.proofs.Common.{◌≡◌, ℕ, suc, ◌<◌, ◌^◌, List, [], ◌∷◌, ◌++◌, map, length, Option, Some, None, is_some, Bool, true, false, ◌&&◌, if◌then◌else◌, refl, sym, ap, ◌∙◌, subst, codes}
+use Rattle.std.proofs.Common.{◌≡◌, ℕ, suc, ◌<◌, ◌^◌, List, [], ◌∷◌, length, Option, Some, None, is_some, Bool, true, false, ◌&&◌, if◌then◌else◌, refl, sym, ap, ◌∙◌, subst, codes}
 use Rattle.serde_json.specs.Data.{string, array, object, put}
 use Rattle.diff_tree.specs.Tree.{text, node, Change, write}
 use Rattle.diff_tree.specs.Frame.{Frame, FrameBody, empty, rendered, changed, refusal, no_cids, push, closed, faulted, reference_json, event_of, payload_of, frame_json}
 use Rattle.diff_tree.specs.Spelling.{Pushed, with_events, with_components, components_json, changed_json, members_of, texts_json, tree_json, trees_json, changes_json, page_tree_json, page_diff_json}
-use Rattle.ast_core.specs.ExprView.{expr_view}
-use Rattle.ast_core.specs.Places.{cut}
-use Rattle.slot_compile.specs.declared.compiled.Compiled.{Compiled}
-use Rattle.slot_compile.specs.declared.compiled.Interpolation.{Interpolation}
-use Rattle.slot_compile.specs.Template.{values_of, syntax_of}
-use Rattle.slot_compile.proofs.Syntax.{cuts_syntax}
+use Rattle.ast_core.specs.Syntax.{Nodes}
+use Rattle.ast_core.specs.Places.{cut, places_in}
 use Rattle.wire_v2.specs.Message.{head_of}
 use Rattle.wire_v2.specs.FrameGrammar.{is_page, is_tree, is_body, is_frame}
 use Rattle.doc_model.specs.Environment.{same_reading}
@@ -18,6 +14,7 @@ use Rattle.doc_model.specs.Whole.{whole_places, whole_place}
 use Rattle.doc_model.specs.Lean.{option_change, lean_places, lean_place}
 use Rattle.doc_model.specs.Components.{parts, part_at, option_tree, part_numbers, whole_tree, lean_parts, lean_diff}
 use Rattle.doc_model.proofs.StepKinds.{Carries}
+use Rattle.doc_model.proofs.Weave.{Fit, fit_nodes}
 use Rattle.client_merge.proofs.Changes.{Holds}
 use Rattle.client_page.proofs.Texts.{IsText, AreTexts, how_many}
 use Rattle.client_page.proofs.Sizes.{FewTexts, no_parts, counted, diff_small}
@@ -37,12 +34,16 @@ BodyFits _ = Unit {0}
 
 -- ---- the whole tree
 
-one_more : (is : List Interpolation) (t : List ℕ) → length (map (λ i. i.before) is ++ t ∷ []) ≡ suc (length (map (λ i. expr_view i.value) is))
-one_more [] t = refl
-one_more (i ∷ is) t = ap suc (one_more is t)
+fit_length : {A : Type 0} (st : List (List ℕ)) (xs : List A) → Fit st xs → length st ≡ suc (length xs)
+fit_length [] xs h = absurd h
+fit_length (s ∷ []) [] h = refl
+fit_length (s ∷ []) (x ∷ xs) h = absurd h
+fit_length (s ∷ t ∷ st) [] h = absurd h
+fit_length (s ∷ t ∷ st) (x ∷ xs) h = ap suc (fit_length (t ∷ st) xs h)
 
-pub cut_len : (c : Compiled) → length (cut (syntax_of c)) ≡ suc (length (values_of c))
-cut_len c = ap length (cuts_syntax c).0 ∙ one_more c.interpolations c.last
+-- nodes are cut at their places
+pub cut_len : (ns : Nodes) → length (cut ns) ≡ suc (length (places_in ns))
+cut_len ns = fit_length (cut ns) (places_in ns) (fit_nodes ns)
 
 whole_texts : (is : Items) → AreTexts is → TextTrees (whole_places is)
 whole_texts no_items h = tt

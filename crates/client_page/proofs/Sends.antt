@@ -3,8 +3,7 @@ use Rattle.std.proofs.Common.{◌≡◌, ℕ, ◌<◌, ◌^◌, suc, List, [], �
 use Rattle.diff_tree.specs.Client.{PageDiff}
 use Rattle.diff_tree.specs.Spelling.{Pushed}
 use Rattle.diff_tree.specs.Frame.{Frame, FrameBody, empty, rendered, changed, refusal, no_cids, push, closed, faulted}
-use Rattle.ast_core.specs.Places.{cut}
-use Rattle.slot_compile.specs.Template.{values_of}
+use Rattle.ast_core.specs.Places.{cut, places_in}
 use Rattle.doc_model.specs.Trace.{Items}
 use Rattle.doc_model.specs.Components.{whole_tree, lean_diff}
 use Rattle.doc_model.specs.Walk.{Walk}
@@ -77,23 +76,23 @@ told_small d closed h c = absurd c
 told_small d (faulted reason) h c = absurd c
 
 module _ (w : World) (texts : IsTextWorld w) where
-  met_texts : (v : ℕ) (s : Turning) (is : Items) (r : Walk Rest) → Draws w levels v s is r → TextsOf (values_of (texts.templates v)) is
+  met_texts : (v : ℕ) (s : Turning) (is : Items) (r : Walk Rest) → Draws w levels v s is r → TextsOf (places_in (w.template_of v)) is
   met_texts v s is r d =
-      let these : Rendered (values_of (texts.templates v)) (walk_before s) (is, r) = subst (On (Rendered (values_of (texts.templates v)) (walk_before s))) d (drawn_texts w texts v s) in
+      let these : Rendered (places_in (w.template_of v)) (walk_before s) (is, r) = subst (On (Rendered (places_in (w.template_of v)) (walk_before s))) d (drawn_texts w texts v s) in
       these.0
 
-  few_texts : (v : ℕ) (is : Items) → TextsOf (values_of (texts.templates v)) is → FewTexts is
+  few_texts : (v : ℕ) (is : Items) → TextsOf (places_in (w.template_of v)) is → FewTexts is
   few_texts v is h = (h.0, subst (λ n. n < 2 ^ 64) (sym h.1) (texts.few v))
 
-  first_texts : (v : ℕ) (o : Outcome) → Renders w v o → TextsOf (values_of (texts.templates v)) o.page.met
-  first_texts v o r = drawn w v r.join_reference r.topic r.before o (λ p. TextsOf (values_of (texts.templates v)) p.met) (λ is x d. met_texts v r.before is x d) r.rendered
+  first_texts : (v : ℕ) (o : Outcome) → Renders w v o → TextsOf (places_in (w.template_of v)) o.page.met
+  first_texts v o r = drawn w v r.join_reference r.topic r.before o (λ p. TextsOf (places_in (w.template_of v)) p.met) (λ is x d. met_texts v r.before is x d) r.rendered
 
   next_texts : (p : Page) (o : Outcome) → Rerenders w p o → FewTexts o.page.met
   next_texts p o r = drawn w p.view p.join_reference p.topic r.before o (λ q. FewTexts q.met) (λ is x d. few_texts p.view is (met_texts p.view r.before is x d)) r.rendered
 
   -- one static more than there are places
-  around : (v : ℕ) (is : Items) → TextsOf (values_of (texts.templates v)) is → length (cut (w.template_of v)) ≡ suc (how_many is)
-  around v is h = ap (λ ns. length (cut ns)) (texts.template_is v) ∙ cut_len (texts.templates v) ∙ ap suc (sym h.1)
+  around : (v : ℕ) (is : Items) → TextsOf (places_in (w.template_of v)) is → length (cut (w.template_of v)) ≡ suc (how_many is)
+  around v is h = cut_len (w.template_of v) ∙ ap suc (sym h.1)
 
   joined_sound : (v : ℕ) (o : Outcome) (es : List Pushed) → Renders w v o → FewTexts o.page.met × IsSound (rendered (whole_tree (cut (w.template_of v)) o.page.met) es)
   joined_sound v o es r =

@@ -4,12 +4,11 @@ use Rattle.ast_core.specs.Places.{streams_in, Once}
 use Rattle.diff_tree.specs.Tree.{Tree, text, number, node, list, stream, held, Trees, no_trees, tree, show_value, show_values, weave}
 use Rattle.diff_tree.specs.Client.{PageTree, look}
 use Rattle.diff_tree.specs.Frame.{Frame, client_takes_all}
-use Rattle.slot_compile.specs.declared.compiled.Interpolation.{Interpolation}
-use Rattle.slot_compile.specs.Template.{syntax_from}
 use Rattle.doc_model.specs.Process.{World, Page}
 use Rattle.doc_model.specs.Journal.{begin_standing, replay_journal, frames_from, spelled}
 use Rattle.doc_model.specs.Headline.{IsLinked, ClientFollows}
 use Rattle.doc_model.proofs.Journals.{all_frames_show}
+use Rattle.live_page.proofs.Streams.{no_streams}
 use Rattle.client_merge.specs.Laws.{IsSmall, AreSmall}
 use Rattle.client_merge.specs.Held.{page_of, pages_of}
 use Rattle.client_merge.specs.Frames.{client_reads_all}
@@ -22,16 +21,12 @@ use Rattle.client_page.proofs.Sends.{AreSound, frames_sound}
 
 -- ---- a world of texts is linked
 
-no_streams : (is : List Interpolation) (t : List ℕ) → streams_in (syntax_from is t) ≡ []
-no_streams [] t = refl
-no_streams (i ∷ is) t = no_streams is t
-
 once_none : (ss : List (List ℕ)) → ss ≡ [] → Once ss
 once_none ss h = subst Once (sym h) tt
 
 is_linked : (w : World) → IsTextWorld w → IsLinked w
 is_linked w texts = record {
-  of_view = λ v. once_none (streams_in (w.template_of v)) (ap streams_in (texts.template_is v) ∙ no_streams (texts.templates v).interpolations (texts.templates v).last);
+  of_view = λ v. once_none (streams_in (w.template_of v)) (no_streams (w.template_of v) (texts.flat v));
   of_module = λ m. once_none (streams_in (w.site.root m)) (ap (λ s. streams_in (s.root m)) texts.calls_nothing);
 }
 

@@ -4,8 +4,8 @@ use Rattle.std.specs.Str.{is_utf8}
 use Rattle.serde_json.specs.Read.{read}
 use Rattle.diff_tree.specs.Tree.{Tree}
 use Rattle.diff_tree.specs.Frame.{Frame, frame_json}
-use Rattle.slot_compile.specs.declared.compiled.Compiled.{Compiled}
-use Rattle.slot_compile.specs.Template.{values_of, syntax_of}
+use Rattle.ast_core.specs.Places.{places_in}
+use Rattle.slot_compile.specs.Template.{all_flat}
 use Rattle.doc_model.specs.Process.{World, Page, page_text}
 use Rattle.doc_model.specs.Journal.{Entry, begin_standing, replay_journal, frames_from, spelled}
 use Rattle.client_merge.specs.Held.{page_of}
@@ -13,11 +13,10 @@ use Rattle.client_merge.specs.Frames.{client_reads_all}
 use Rattle.client_merge.specs.Alike.{frame_bytes}
 use Rattle.live_page.specs.World.{site}
 
--- a world whose templates are texts and interpolations, of fewer than 2^64 places, which call nothing
+-- a world whose templates have fewer than 2^64 places, which have nothing inside: no template calls anything
 pub record IsTextWorld (w : World) : Type 0 where
-  pub templates : ℕ → Compiled
-  pub template_is : (v : ℕ) → w.template_of v ≡ syntax_of (templates v)
-  pub few : (v : ℕ) → length (values_of (templates v)) < 2 ^ 64
+  pub flat : (v : ℕ) → all_flat (w.template_of v) ≡ true
+  pub few : (v : ℕ) → length (places_in (w.template_of v)) < 2 ^ 64
   pub calls_nothing : w.site ≡ site
 
 -- the bytes of a frame are UTF-8, and its JSON value is read from them: so it is where it nests at most 127 deep, the keys

@@ -14,5 +14,5 @@ pub fn client_shows_page<V: Views>(app: &App<V>)
     ensures { ClientShowsPage (world_of V.meaning app.now) }
 {
     // What stands in memory has fewer than 2^64 places.
-    let _count = app.compiled.interpolations.len();
+    let _count = app.compiled.dynamics().len();
 }

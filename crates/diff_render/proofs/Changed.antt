@@ -11,15 +11,14 @@ use Rattle.text_core.specs.Keyed.{lookup as kept}
 use Rattle.value_core.specs.Value.{Value, Assigns}
 use Rattle.value_core.specs.View.{view, assigns_view}
 use Rattle.value_core.specs.declared.value.Value.{Value as Stored}
-use Rattle.ast_core.specs.Syntax.{Name, at, var, Expr}
-use Rattle.ast_core.specs.Free.{free_names}
+use Rattle.ast_core.specs.Syntax.{Name, at, var}
 use Rattle.ast_core.specs.Reads.{with_name, assigns_in}
 use Rattle.assigns_track.specs.declared.tracked.Tracked.{Tracked}
 use Rattle.assigns_track.specs.Track.{present_of, settled_of, differ}
 use Rattle.doc_model.proofs.Sames.{option_sound, same_refl}
 use Rattle.doc_model.specs.Environment.{lookup, same_option, reading, same_reading}
 use Rattle.diff_render.specs.Met.{scope_of}
-use Rattle.diff_render.specs.Places.{IsChanged}
+use Rattle.diff_render.specs.Places.{AreChanged}
 use Rattle.diff_render.specs.Renders.{HasSettled, present}
 
 -- a value at a name, seen
@@ -102,5 +101,5 @@ any_differs t before (at a ∷ ns) settled =
     ∙ one_more t before a (same_reading (reading (scope_of before) ns) (reading (scope_of (present t)) ns)) settled
 any_differs t before (var v ∷ ns) settled = any_differs t before ns settled
 
-pub any_changed : (t : Tracked) (e : Expr) (b : Bool) → b ≡ list_any (λ n. differ (present_of t n) (settled_of t n)) (assigns_in (free_names e)) → IsChanged t e b
-any_changed t e b h before settled = h ∙ any_differs t before (free_names e) settled
+pub any_changed : (t : Tracked) (ns : List Name) (b : Bool) → b ≡ list_any (λ n. differ (present_of t n) (settled_of t n)) (assigns_in ns) → AreChanged t ns b
+any_changed t ns b h before settled = h ∙ any_differs t before ns settled

@@ -1,5 +1,7 @@
-pub mod Puts
+pub mod Changed
 pub mod Items
 pub mod Loops
-pub mod Changed
+pub mod PlainNodes
+pub mod Puts
+pub mod Shows
 pub mod Woven

@@ -1,16 +1,14 @@
 -- One place more, from the back.
-use Rattle.std.proofs.Common.{◌≡◌, ℕ, zero, suc, List, [], ◌∷◌, ◌++◌, length, Option, Some, None, Ok, Err, Bool, true, false, not, refl, sym, ap, ◌∙◌, append_assoc, take, get_or, ◌-◌, ◌≤◌, arith, length-take, if◌then◌else◌, true≢false}
+use Rattle.std.proofs.Common.{◌≡◌, ℕ, zero, suc, List, [], ◌∷◌, ◌++◌, length, Some, None, Ok, Err, Bool, true, false, not, refl, sym, ap, ◌∙◌, append_assoc, take, get_or, ◌-◌, ◌≤◌, arith, length-take, if◌then◌else◌, true≢false}
 use Rattle.std.proofs.lemmas.List.{map-append}
 use Rattle.std.specs.Fmt.{decimal}
 use Rattle.std.specs.Prelude.{codes}
 use Rattle.serde_json.specs.Data.{Data, object, array, Members, string, put}
 use Rattle.text_core.specs.declared.by_key.KeyValue.{KeyValue}
-use Rattle.text_core.specs.Escape.{escape_text}
-use Rattle.value_core.specs.Value.{Value, Assigns}
+use Rattle.value_core.specs.Value.{Assigns}
 use Rattle.value_core.specs.declared.raise.Raise.{Raise}
-use Rattle.ast_core.specs.Syntax.{Expr}
-use Rattle.ast_core.specs.ExprView.{expr_view}
-use Rattle.ast_core.specs.Free.{free_names}
+use Rattle.ast_core.specs.Syntax.{Place}
+use Rattle.ast_core.specs.Places.{cut}
 use Rattle.diff_tree.specs.Parts.{places_json, seen, part_data, node_data}
 use Rattle.diff_tree.specs.declared.part.PlaceValue.{PlaceValue}
 use Rattle.diff_tree.specs.declared.part.Part.{Part}
@@ -18,63 +16,45 @@ use Rattle.diff_tree.specs.Tree.{text, write}
 use Rattle.diff_tree.specs.Spelling.{changes_json, texts_json}
 use Rattle.assigns_track.specs.declared.tracked.Tracked.{Tracked}
 use Rattle.doc_model.proofs.Sames.{reading_sound}
-use Rattle.doc_model.proofs.Names.{agree_from, eval_agrees}
-use Rattle.doc_model.specs.Environment.{reading, same_reading}
-use Rattle.doc_model.specs.Evaluation.{Res, both, on_res, then_do, eval_expr, printed}
+use Rattle.doc_model.specs.Environment.{same_reading}
+use Rattle.doc_model.specs.Evaluation.{Res, both, on_res}
 use Rattle.doc_model.specs.Trace.{Items, Item, item, met_text}
 use Rattle.doc_model.specs.Lean.{lean_places, option_change}
-use Rattle.slot_compile.specs.declared.compiled.Compiled.{Compiled}
-use Rattle.slot_compile.specs.declared.compiled.Interpolation.{Interpolation}
-use Rattle.slot_compile.specs.Template.{values_of, statics_of}
-use Rattle.slot_compile.proofs.Syntax.{cut_is_statics}
+use Rattle.slot_compile.specs.declared.compiled.Dynamic.{Dynamic}
+use Rattle.slot_compile.specs.Template.{Source, syntax_of, IsFlat, place_of}
 use Rattle.diff_render.specs.declared.fault.RenderFault.{RenderFault}
 use Rattle.diff_render.specs.declared.fault.RenderFault.TheVariants as fault
-use Rattle.diff_render.proofs.Items.{meets_items, raise_among}
-use Rattle.diff_render.specs.Met.{scope_of, item_of, items_of}
-use Rattle.diff_render.specs.Shown.{shown_of, ShowsPlace}
-use Rattle.diff_render.specs.Places.{values_in, HasMembers, GivesPlaces, HasChanges, IsChanged, whole_members, lean_members}
+use Rattle.diff_render.proofs.Items.{meets_items, raise_among, shown_agrees}
+use Rattle.diff_render.specs.Met.{shown_at, read_at, item_of, items_of, places_of}
+use Rattle.diff_render.specs.Shown.{ShowsPlace}
+use Rattle.diff_render.specs.Places.{places_in, HasMembers, GivesPlaces, HasChanges, IsChanged, whole_members, lean_members}
 use Rattle.diff_render.specs.Renders.{Sends, Renders, whole_json, lean_json, present}
 
--- the values of the names that an expression reads
-abbrev pub read_by : Assigns → Expr → List (Option Value)
-read_by as' e = reading (scope_of as') (free_names e)
-
 -- what a place meets, from what it shows
-pub item_shown : (as' : Assigns) (e : Expr) (t : List ℕ) → shown_of as' e ≡ Ok t → item_of as' e ≡ Ok (met_text (read_by as' e) t)
-item_shown as' e t h = by (then_do (eval_expr (scope_of as') e) printed) h
-  where
-    by : (r : Res (List ℕ)) → on_res escape_text r ≡ Ok t → on_res (λ u. met_text (read_by as' e) (escape_text u)) r ≡ Ok (met_text (read_by as' e) t)
-    by (Ok u) k = ap (on_res (met_text (read_by as' e))) k
-    by (Err f) k = cc
+pub item_shown : (as' : Assigns) (p : Place) (t : List ℕ) → shown_at as' p ≡ Ok t → item_of as' p ≡ Ok (met_text (read_at as' p) t)
+item_shown as' p t h = ap (on_res (met_text (read_at as' p))) h
 
-pub item_raises : (as' : Assigns) (e : Expr) (f : Raise) → shown_of as' e ≡ Err f → item_of as' e ≡ Err f
-item_raises as' e f h = by (then_do (eval_expr (scope_of as') e) printed) h
-  where
-    by : (r : Res (List ℕ)) → on_res escape_text r ≡ Err f → on_res (λ u. met_text (read_by as' e) (escape_text u)) r ≡ Err f
-    by (Ok u) k = cc
-    by (Err g) k = ap (λ x. on_res (λ u. met_text (read_by as' e) (escape_text u)) x) k
+pub item_raises : (as' : Assigns) (p : Place) (f : Raise) → shown_at as' p ≡ Err f → item_of as' p ≡ Err f
+item_raises as' p f h = ap (on_res (met_text (read_at as' p))) h
 
 -- one item before others
-pub items_more : (as' : Assigns) (e : Expr) (es : List Expr) (i : Item) (is : Items) → item_of as' e ≡ Ok i → items_of as' es ≡ Ok is → items_of as' (e ∷ es) ≡ Ok (item i is)
-items_more as' e es i is h k = ap (λ r. both item r (items_of as' es)) h ∙ ap (both item (Ok i)) k
+pub items_more : (as' : Assigns) (p : Place) (ps : List Place) (i : Item) (is : Items) → item_of as' p ≡ Ok i → items_of as' ps ≡ Ok is → items_of as' (p ∷ ps) ≡ Ok (item i is)
+items_more as' p ps i is h k = ap (λ r. both item r (items_of as' ps)) h ∙ ap (both item (Ok i)) k
 
 -- the whole tree gets one place more
-pub whole_more : (as' : Assigns) (n : Expr) (ns : List Expr) (k : ℕ) (t : List ℕ) (es fs : List (KeyValue PlaceValue))
-    → shown_of as' n ≡ Ok t → places_json (seen fs) ≡ put (decimal k) (string t) (places_json (seen es)) → HasMembers ns as' (whole_members (suc k)) es
+pub whole_more : (as' : Assigns) (n : Place) (ns : List Place) (k : ℕ) (t : List ℕ) (es fs : List (KeyValue PlaceValue))
+    → shown_at as' n ≡ Ok t → places_json (seen fs) ≡ put (decimal k) (string t) (places_json (seen es)) → HasMembers ns as' (whole_members (suc k)) es
     → HasMembers (n ∷ ns) as' (whole_members k) fs
 whole_more as' n ns k t es fs shows puts h =
-    (item (met_text (read_by as' n) t) h.0, items_more as' n ns (met_text (read_by as' n) t) h.0 (item_shown as' n t shows) h.1, puts ∙ ap (put (decimal k) (string t)) h.2)
+    (item (met_text (read_at as' n) t) h.0, items_more as' n ns (met_text (read_at as' n) t) h.0 (item_shown as' n t shows) h.1, puts ∙ ap (put (decimal k) (string t)) h.2)
 
 -- what a place met, split from the rest
-record Split (before : Assigns) (n : Expr) (ns : List Expr) (old : Items) : Type 0 where
+record Split (before : Assigns) (n : Place) (ns : List Place) (old : Items) : Type 0 where
   shown_before : List ℕ
   later : Items
-  shown_is : item_of before n ≡ Ok (met_text (read_by before n) shown_before)
+  shown_is : item_of before n ≡ Ok (met_text (read_at before n) shown_before)
   later_is : items_of before ns ≡ Ok later
-  old_is : old ≡ item (met_text (read_by before n) shown_before) later
-
-abbrev met_as : Assigns → Expr → List ℕ → Item
-met_as before n u = met_text (read_by before n) (escape_text u)
+  old_is : old ≡ item (met_text (read_at before n) shown_before) later
 
 abbrev ok_items : Items → Res Items
 ok_items x = Ok x
@@ -82,15 +62,15 @@ ok_items x = Ok x
 split_ok : (x old : Items) → ok_items x ≡ ok_items old → old ≡ x
 split_ok x old k = cc
 
-split_by : (before : Assigns) (n : Expr) (ns : List Expr) (old : Items) (r : Res (List ℕ)) → then_do (eval_expr (scope_of before) n) printed ≡ r
-    → (q : Res Items) → items_of before ns ≡ q → both item (on_res (met_as before n) r) q ≡ Ok old → Split before n ns old
+split_by : (before : Assigns) (n : Place) (ns : List Place) (old : Items) (r : Res (List ℕ)) → shown_at before n ≡ r → (q : Res Items) → items_of before ns ≡ q
+    → both item (on_res (met_text (read_at before n)) r) q ≡ Ok old → Split before n ns old
 split_by before n ns old (Ok u) is (Ok l) also k =
-    record { shown_before = escape_text u; later = l; shown_is = ap (on_res (met_as before n)) is; later_is = also; old_is = split_ok (item (met_as before n u) l) old k }
+    record { shown_before = u; later = l; shown_is = item_shown before n u is; later_is = also; old_is = split_ok (item (met_text (read_at before n) u) l) old k }
 split_by before n ns old (Ok u) is (Err e) also k = cc
 split_by before n ns old (Err e) is q also k = cc
 
-split : (before : Assigns) (n : Expr) (ns : List Expr) (old : Items) → items_of before (n ∷ ns) ≡ Ok old → Split before n ns old
-split before n ns old h = split_by before n ns old (then_do (eval_expr (scope_of before) n) printed) refl (items_of before ns) refl h
+split : (before : Assigns) (n : Place) (ns : List Place) (old : Items) → items_of before (n ∷ ns) ≡ Ok old → Split before n ns old
+split before n ns old h = split_by before n ns old (shown_at before n) refl (items_of before ns) refl h
 
 -- the answer whether what is read differs, turned
 differs : (b c : Bool) → b ≡ not c → b ≡ true → c ≡ false
@@ -102,47 +82,47 @@ differs_not b true h k = refl
 differs_not b false h k = absurd (true≢false (sym h ∙ k))
 
 -- a place that differs is one change more
-pub change_more : (t : Tracked) (n : Expr) (ns : List Expr) (k : ℕ) (u : List ℕ) (b : Bool) (es fs : List (KeyValue PlaceValue))
-    → IsChanged t n b → b ≡ true → shown_of (present t) n ≡ Ok u → places_json (seen fs) ≡ put (decimal k) (string u) (places_json (seen es))
+pub change_more : (t : Tracked) (n : Place) (ns : List Place) (k : ℕ) (u : List ℕ) (b : Bool) (es fs : List (KeyValue PlaceValue))
+    → IsChanged t n b → b ≡ true → shown_at (present t) n ≡ Ok u → places_json (seen fs) ≡ put (decimal k) (string u) (places_json (seen es))
     → HasChanges (suc k) ns t es → HasChanges k (n ∷ ns) t fs
 change_more t n ns k u b es fs changed is_true shows puts h before old settled is = with_split (split before n ns old is)
   where
     with_split : Split before n ns old → HasMembers (n ∷ ns) (present t) (lean_members k old) fs
     with_split s = given (h before s.later settled s.later_is)
       where
-        apart : same_reading (read_by before n) (read_by (present t) n) ≡ false
-        apart = differs b (same_reading (read_by before n) (read_by (present t) n)) (changed before settled) is_true
+        apart : same_reading (read_at before n) (read_at (present t) n) ≡ false
+        apart = differs b (same_reading (read_at before n) (read_at (present t) n)) (changed before settled) is_true
 
         given : HasMembers ns (present t) (lean_members (suc k) s.later) es → HasMembers (n ∷ ns) (present t) (lean_members k old) fs
         given m = (
-          item (met_text (read_by (present t) n) u) m.0,
-          items_more (present t) n ns (met_text (read_by (present t) n) u) m.0 (item_shown (present t) n u shows) m.1,
+          item (met_text (read_at (present t) n) u) m.0,
+          items_more (present t) n ns (met_text (read_at (present t) n) u) m.0 (item_shown (present t) n u shows) m.1,
           puts ∙ ap (put (decimal k) (string u)) m.2
               ∙ ap (λ c. changes_json k (option_change (if c then None else Some (write (text u))) (lean_places s.later m.0))) (sym apart)
-              ∙ ap (λ o. lean_members k o (item (met_text (read_by (present t) n) u) m.0)) (sym s.old_is),
+              ∙ ap (λ o. lean_members k o (item (met_text (read_at (present t) n) u) m.0)) (sym s.old_is),
         )
 
 -- a place that does not differ is skipped
-pub change_less : (t : Tracked) (n : Expr) (ns : List Expr) (k : ℕ) (b : Bool) (es : List (KeyValue PlaceValue))
+pub change_less : (t : Tracked) (n : Place) (ns : List Place) (k : ℕ) (b : Bool) (es : List (KeyValue PlaceValue))
     → IsChanged t n b → b ≡ false → HasChanges (suc k) ns t es → HasChanges k (n ∷ ns) t es
 change_less t n ns k b es changed is_false h before old settled is = with_split (split before n ns old is)
   where
-    same_values : same_reading (read_by before n) (read_by (present t) n) ≡ true
-    same_values = differs_not b (same_reading (read_by before n) (read_by (present t) n)) (changed before settled) is_false
+    same_values : same_reading (read_at before n) (read_at (present t) n) ≡ true
+    same_values = differs_not b (same_reading (read_at before n) (read_at (present t) n)) (changed before settled) is_false
 
-    alike : read_by before n ≡ read_by (present t) n
-    alike = reading_sound (read_by before n) (read_by (present t) n) same_values
+    alike : read_at before n ≡ read_at (present t) n
+    alike = reading_sound (read_at before n) (read_at (present t) n) same_values
 
     with_split : Split before n ns old → HasMembers (n ∷ ns) (present t) (lean_members k old) es
     with_split s = given (h before s.later settled s.later_is)
       where
         met : Item
-        met = met_text (read_by (present t) n) s.shown_before
+        met = met_text (read_at (present t) n) s.shown_before
 
         same_item : item_of (present t) n ≡ Ok met
         same_item =
-            ap (λ r. on_res (λ v. met_text (read_by (present t) n) (escape_text v)) (then_do r printed)) (sym (eval_agrees n (scope_of before) (scope_of (present t)) (agree_from (scope_of before) (scope_of (present t)) (free_names n) alike)))
-            ∙ ap (λ vs. on_res (λ v. met_text vs (escape_text v)) (then_do (eval_expr (scope_of before) n) printed)) (sym alike)
+            ap (on_res (met_text (read_at (present t) n))) (sym (shown_agrees before (present t) n alike))
+            ∙ ap (λ vs. on_res (met_text vs) (shown_at before n)) (sym alike)
             ∙ s.shown_is
             ∙ ap (λ vs. Ok (met_text vs s.shown_before)) alike
 
@@ -172,29 +152,29 @@ pub left_length : {A : Type 0} (left : List A) → 1 ≤ length left → length 
 left_length left h = omega (arith, h, length-take (length left - 1) left)
 
 -- a place that raises
-pub raises_place : (as' : Assigns) (all front rest : List Interpolation) (i : Interpolation) (json : Items → Members) (f : RenderFault)
-    → all ≡ front ++ i ∷ rest → ShowsPlace (Err f) (shown_of as' (expr_view i.value)) → GivesPlaces (values_in all) as' json (Err f)
-raises_place as' all front rest i json fault.Raised is (e, h) = given (raise_among as' (values_in front) (expr_view i.value) (values_in rest) e (item_raises as' (expr_view i.value) e h))
+pub raises_place : (as' : Assigns) (all front rest : List Dynamic) (d : Dynamic) (json : Items → Members) (f : RenderFault)
+    → all ≡ front ++ d ∷ rest → ShowsPlace (Err f) (shown_at as' (place_of d)) → GivesPlaces (places_in all) as' json (Err f)
+raises_place as' all front rest d json fault.Raised is (e, h) = given (raise_among as' (places_in front) (place_of d) (places_in rest) e (item_raises as' (place_of d) e h))
   where
-    given : (k : Raise) × (items_of as' (values_in front ++ expr_view i.value ∷ values_in rest) ≡ Err k) → (k : Raise) × (items_of as' (values_in all) ≡ Err k)
-    given r = (r.0, ap (λ xs. items_of as' (values_in xs)) is ∙ ap (items_of as') (map-append (λ x. expr_view x.value) front (i ∷ rest)) ∙ r.1)
-raises_place as' all front rest i json fault.OutOfMemory is h = tt
+    given : (k : Raise) × (items_of as' (places_in front ++ place_of d ∷ places_in rest) ≡ Err k) → (k : Raise) × (items_of as' (places_in all) ≡ Err k)
+    given r = (r.0, ap (λ ds. items_of as' (places_in ds)) is ∙ ap (items_of as') (map-append place_of front (d ∷ rest)) ∙ r.1)
+raises_place as' all front rest d json fault.OutOfMemory is h = tt
 
 -- what places raise, the template raises
-pub renders_fault : (c : Compiled) (as' : Assigns) (members : Items → Members) (json : Items → Data) (f : RenderFault)
-    → GivesPlaces (values_of c) as' members (Err f) → Renders c as' json (Err f)
-renders_fault c as' members json fault.Raised (e, h) = (e, λ site k env is none. meets_items c as' site k env is none ∙ h)
-renders_fault c as' members json fault.OutOfMemory h = tt
+pub renders_fault : (c : Source) (as' : Assigns) (members : Items → Members) (json : Items → Data) (f : RenderFault)
+    → IsFlat c → GivesPlaces (places_of c) as' members (Err f) → Renders c as' json (Err f)
+renders_fault c as' members json fault.Raised flat (e, h) = (e, meets_items c as' (Err e) flat h)
+renders_fault c as' members json fault.OutOfMemory flat h = tt
 
 -- what places show, the template sends
-pub sends_lean : (c : Compiled) (as' : Assigns) (old : Items) (es : List (KeyValue PlaceValue)) (p : Part)
-    → part_data p ≡ node_data None es → HasMembers (values_of c) as' (lean_members 0 old) es → Sends c as' (lean_json old) p
-sends_lean c as' old es p parts h = (h.0, (λ site k env is none. meets_items c as' site k env is none ∙ h.1), parts ∙ ap object h.2)
+pub sends_lean : (c : Source) (as' : Assigns) (old : Items) (es : List (KeyValue PlaceValue)) (p : Part)
+    → part_data p ≡ node_data None es → IsFlat c → HasMembers (places_of c) as' (lean_members 0 old) es → Sends c as' (lean_json old) p
+sends_lean c as' old es p parts flat h = (h.0, meets_items c as' (Ok h.0) flat h.1, parts ∙ ap object h.2)
 
-pub sends_whole : (c : Compiled) (as' : Assigns) (st : List (List ℕ)) (es : List (KeyValue PlaceValue)) (p : Part)
-    → st ≡ statics_of c → part_data p ≡ node_data (Some st) es → HasMembers (values_of c) as' (whole_members 0) es → Sends c as' (whole_json c) p
-sends_whole c as' st es p statics parts h = (
+pub sends_whole : (c : Source) (as' : Assigns) (st : List (List ℕ)) (es : List (KeyValue PlaceValue)) (p : Part)
+    → st ≡ cut (syntax_of c) → part_data p ≡ node_data (Some st) es → IsFlat c → HasMembers (places_of c) as' (whole_members 0) es → Sends c as' (whole_json c) p
+sends_whole c as' st es p statics parts flat h = (
   h.0,
-  (λ site k env is none. meets_items c as' site k env is none ∙ h.1),
-  parts ∙ ap (λ ms. object (put (codes "s") (array (texts_json st)) ms)) h.2 ∙ ap (λ ss. object (put (codes "s") (array (texts_json ss)) (whole_members 0 h.0))) (statics ∙ sym (cut_is_statics c)),
+  meets_items c as' (Ok h.0) flat h.1,
+  parts ∙ ap (λ ms. object (put (codes "s") (array (texts_json st)) ms)) h.2 ∙ ap (λ ss. object (put (codes "s") (array (texts_json ss)) (whole_members 0 h.0))) statics,
 )

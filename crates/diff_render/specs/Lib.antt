@@ -1,4 +1,5 @@
 pub mod Met
 pub mod Renders
 pub mod Places
+pub mod Plain
 pub mod Shown

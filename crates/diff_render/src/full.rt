@@ -14,11 +14,13 @@ pub fn page_text(alloc: Global, compiled: &Compiled, assigns: &Assigns) -> Resul
     ensures { ShowsText compiled.now (assigns_view assigns.now) result }
 {
     let mut text = Text::new(alloc);
-    'places: for interpolation in compiled.interpolations.as_slice() {
-        text.push_str(interpolation.before.as_str())?;
-        let shown = place_text(alloc, assigns, interpolation.value.expr())?;
+    let statics = compiled.statics();
+    let dynamics = compiled.dynamics();
+    'places: for i in 0..dynamics.len() {
+        text.push_str(statics[i].as_str())?;
+        let shown = place_text(alloc, assigns, &dynamics[i])?;
         text.push_str(shown.as_str())?;
     }
-    text.push_str(compiled.last.as_str())?;
+    text.push_str(statics[dynamics.len()].as_str())?;
     Ok(text)
 }

@@ -4,10 +4,12 @@
 mod fault;
 mod full;
 mod place;
+mod plain;
 mod render;
 #[cfg(test)]
 mod tests;
 
 pub use fault::RenderFault;
 pub use full::page_text;
+pub use plain::render_plain;
 pub use render::{first, next};

@@ -1,16 +1,17 @@
 //! The first rendering of a page, and each later one.
 ghost use Rattle.std.specs.Prelude.{◌≡◌, IfOk};
 ghost use Rattle.value_core.specs.View.{assigns_view};
-ghost use Rattle.slot_compile.specs.Template.{statics_of};
 ghost use Rattle.ast_core.specs.ExprView.{expr_view};
+ghost use Rattle.ast_core.specs.Free.{free_names};
+ghost use Rattle.slot_compile.specs.Template.{place_of};
 ghost use Rattle.diff_render.specs.Renders.{FirstIsWhole, NextIsLean};
-ghost use Rattle.diff_render.specs.Places.{values_in, GivesPlaces, GivesChanges, IsChanged, whole_members};
+ghost use Rattle.diff_render.specs.Places.{places_in, AreChanged, GivesPlaces, GivesChanges, IsChanged, whole_members};
 
 use crate::RenderFault;
 use crate::place::{place_text, put_text};
 use assigns_track::Tracked;
 use diff_tree::{Part, PlaceValue};
-use slot_compile::{Compiled, Formula, Interpolation};
+use slot_compile::{Compiled, Dynamic, Formula};
 use std::alloc::Global;
 use text_core::{ByKey, Names, OutOfMemory, Seq, Text};
 use value_core::Assigns;
@@ -20,8 +21,8 @@ use value_core::Assigns;
 pub fn first(alloc: Global, compiled: &Compiled, assigns: &Assigns) -> Result<Part, RenderFault>
     ensures { FirstIsWhole compiled.now (assigns_view assigns.now) result }
 {
-    let places = whole_places(alloc, compiled.interpolations.as_slice(), assigns)?;
-    let statics = statics_copy(alloc, compiled)?;
+    let places = whole_places(alloc, compiled.dynamics(), assigns)?;
+    let statics = copies(alloc, compiled.statics())?;
     Ok(Part::new(Some(statics), places))
 }
 
@@ -30,22 +31,22 @@ pub fn first(alloc: Global, compiled: &Compiled, assigns: &Assigns) -> Result<Pa
 pub fn next(alloc: Global, compiled: &Compiled, assigns: &Tracked) -> Result<Part, RenderFault>
     ensures { NextIsLean compiled.now assigns.now result }
 {
-    let places = changed_places(alloc, compiled.interpolations.as_slice(), assigns)?;
+    let places = changed_places(alloc, compiled.dynamics(), assigns)?;
     Ok(Part::new(None, places))
 }
 
 // The text of each place, under its number.
 fn whole_places(
     alloc: Global,
-    interpolations: &[Interpolation],
+    dynamics: &[Dynamic],
     assigns: &Assigns,
 ) -> Result<ByKey<PlaceValue>, RenderFault>
-    ensures { GivesPlaces (values_in interpolations.now) (assigns_view assigns.now) (whole_members 0) result }
+    ensures { GivesPlaces (places_in dynamics.now) (assigns_view assigns.now) (whole_members 0) result }
 {
     let mut places = ByKey::new(alloc);
-    let mut left = interpolations;
+    let mut left = dynamics;
     'places: while let [earlier @ .., place] = left {
-        let text = place_text(alloc, assigns, place.value.expr())?;
+        let text = place_text(alloc, assigns, place)?;
         put_text(alloc, &mut places, earlier.len(), text)?;
         left = earlier;
     }
@@ -53,8 +54,18 @@ fn whole_places(
 }
 
 // Whether an assign that is read there differs.
-fn is_changed(assigns: &Tracked, value: &Formula) -> bool
-    ensures { IsChanged assigns.now (expr_view value.now) result }
+fn is_changed(assigns: &Tracked, place: &Dynamic) -> bool
+    ensures { IsChanged assigns.now (place_of place.now) result }
+{
+    match place {
+        Dynamic::Put(value) | Dynamic::Attribute { name: _, value } | Dynamic::Spread(value) =>
+            reads_changed(assigns, value),
+    }
+}
+
+// Whether an assign that an expression reads differs.
+fn reads_changed(assigns: &Tracked, value: &Formula) -> bool
+    ensures { AreChanged assigns.now (free_names (expr_view value.now)) result }
 {
     value
         .reads()
@@ -65,16 +76,16 @@ fn is_changed(assigns: &Tracked, value: &Formula) -> bool
 // The text of each place that reads an assign that differs, under its number.
 fn changed_places(
     alloc: Global,
-    interpolations: &[Interpolation],
+    dynamics: &[Dynamic],
     assigns: &Tracked,
 ) -> Result<ByKey<PlaceValue>, RenderFault>
-    ensures { GivesChanges (values_in interpolations.now) assigns.now result }
+    ensures { GivesChanges (places_in dynamics.now) assigns.now result }
 {
     let mut places = ByKey::new(alloc);
-    let mut left = interpolations;
+    let mut left = dynamics;
     'places: while let [earlier @ .., place] = left {
-        if is_changed(assigns, &place.value) {
-            let text = place_text(alloc, assigns.assigns(), place.value.expr())?;
+        if is_changed(assigns, place) {
+            let text = place_text(alloc, assigns.assigns(), place)?;
             put_text(alloc, &mut places, earlier.len(), text)?;
         }
         left = earlier;
@@ -82,13 +93,13 @@ fn changed_places(
     Ok(places)
 }
 
-fn statics_copy(alloc: Global, compiled: &Compiled) -> Result<Names, OutOfMemory>
-    ensures { IfOk result (λ copy. copy ≡ statics_of compiled.now) }
+// The texts once more.
+fn copies(alloc: Global, texts: &[Text]) -> Result<Names, OutOfMemory>
+    ensures { IfOk result (λ copy. copy ≡ texts.now) }
 {
     let mut copy = Seq::new(alloc);
-    for interpolation in compiled.interpolations.as_slice() {
-        copy.push(interpolation.before.copy(alloc)?)?;
+    for text in texts {
+        copy.push(text.copy(alloc)?)?;
     }
-    copy.push(compiled.last.copy(alloc)?)?;
     Ok(copy)
 }

@@ -1,11 +1,9 @@
 -- Chains, step by step.
-use Rattle.std.proofs.Common.{◌≡◌, ℕ, ◌+◌, ◌<◌, ◌≤◌, List, [], ◌∷◌, ◌++◌, length, get_or, drop, map, Bool, true, false, not, Option, Some, None, Result, Ok, Err, if◌then◌else◌, refl, sym, ap, ◌∙◌}
+use Rattle.std.proofs.Common.{◌≡◌, ℕ, ◌+◌, ◌<◌, ◌≤◌, List, [], ◌∷◌, ◌++◌, length, get_or, drop, map, Bool, true, false, not, Some, None, Ok, Err, if◌then◌else◌, refl, sym, ap, ◌∙◌}
 use Rattle.std.proofs.lemmas.List.{map-append, drop_all}
 use Rattle.value_core.specs.Value as model
 use Rattle.value_core.specs.Value.{Values, value}
-use Rattle.value_core.specs.View.{view}
 use Rattle.value_core.specs.declared.raise.Raise.{Raise}
-use Rattle.value_core.specs.declared.raise.Raise.TheVariants.{BadBoolean}
 use Rattle.value_core.proofs.Order.{cons_at}
 use Rattle.ast_core.specs.declared.operators.BinaryOp.{BinaryOp}
 use Rattle.ast_core.specs.declared.operators.BinaryOp.TheVariants.{OrElse, Or, AndAlso, And}
@@ -20,7 +18,8 @@ use Rattle.doc_model.specs.Evaluation.{Res, then_do, on_res, both, or_else_do, d
 use Rattle.expr_eval.specs.declared.fault.EvalFault.{EvalFault}
 use Rattle.expr_eval.specs.declared.fault.EvalFault.TheVariants.{Raised, OutOfMemory}
 use Rattle.expr_eval.specs.Gives.{Gives}
-use Rattle.expr_eval.specs.Operands.{decides, boolean_in}
+use Rattle.expr_eval.specs.Held.{held_view}
+use Rattle.expr_eval.specs.Operands.{decides}
 use Rattle.expr_eval.specs.declared.right_chain.Waiting.{Waiting}
 use Rattle.expr_eval.specs.Chains.{chain, operand_on, step_on, call_on, right_on, back, waiting_view}
 use Rattle.expr_eval.proofs.Results.{then_is}
@@ -174,7 +173,7 @@ pub right_ends : (env : Env) (os : List Operand) (i : ℕ) (ws : List (BinaryOp 
 right_ends env os i ws v total h so_far = so_far ∙ ap (λ l. back ws (right_on env v (map operand_view l))) (drop_all i os h)
 
 -- the last that waits, and its right operand
-pub taken : (all ws : List Waiting) (w : Waiting) (v : model.Value) (total : Res model.Value) → all ≡ ws ++ w ∷ [] → total ≡ back (map waiting_view all) (Ok v) → total ≡ back (map waiting_view ws) (eval_binary w.op (view w.left) v)
+pub taken : (all ws : List Waiting) (w : Waiting) (v : model.Value) (total : Res model.Value) → all ≡ ws ++ w ∷ [] → total ≡ back (map waiting_view all) (Ok v) → total ≡ back (map waiting_view ws) (eval_binary w.op (held_view w.left) v)
 taken all ws w v total is so_far =
     so_far ∙ ap (λ l. back (map waiting_view l) (Ok v)) is ∙ ap (λ l. back l (Ok v)) (map-append waiting_view ws (w ∷ []))
     ∙ back-snoc (map waiting_view ws) (waiting_view w) (Ok v)

@@ -1,5 +1,5 @@
 -- What each form of the program's expressions is seen as.
-use Rattle.std.proofs.Common.{◌≡◌, ◌⊎◌, inl, inr, ℕ, List, [], ◌∷◌, map, Option, Some, None, Box, refl, sym, ap, ◌∙◌}
+use Rattle.std.proofs.Common.{◌≡◌, ℕ, List, map, Some, None, Box, sym, ap, ◌∙◌}
 use Rattle.std.specs.declared.alloc.Global.{Global}
 use Rattle.ast_core.specs.declared.operators.UnaryOp.{UnaryOp}
 use Rattle.ast_core.specs.declared.operators.BinaryOp.{BinaryOp}
@@ -16,7 +16,7 @@ use Rattle.ast_core.specs.declared.expr.Expr.TheViews.{roll-Expr}
 use Rattle.ast_core.specs.declared.expr.Expr.TheFolds.{map-Expr, fold-roll-Expr, fold_out-Pair, fold_out-Operand, fold_out-PipeCall}
 use Rattle.ast_core.specs.Syntax as model
 use Rattle.ast_core.specs.Syntax.{Exprs}
-use Rattle.ast_core.specs.ExprView.{Part, Step, exprs_of, pairs_of, parts_of, path_of, left_chain, right_chain, pipes_of, expr_view, exprs_view, expr_step, path_step, part_step, operand_step, pair_step, call_step}
+use Rattle.ast_core.specs.ExprView.{Part, Step, pairs_of, parts_of, path_of, left_chain, right_chain, pipes_of, expr_view, exprs_view, expr_step, path_step, part_step, operand_step, pair_step, call_step}
 use Rattle.ast_core.specs.NamesIn.{part_view, pair_view, step_view, operand_view, call_view}
 
 view_of : (x : Expr-F Expr PathStep TextPart Operand Pair PipeCall) → expr_view (roll-Expr x) ≡ expr_step (map-Expr _ _ _ _ _ _ _ _ _ _ _ _ expr_view step_view part_view operand_view pair_view call_view x)

@@ -1,5 +1,5 @@
 -- The entries of a map, put in one by one from the left, are those that the definition gives from the right.
-use Rattle.std.proofs.Common.{◌≡◌, ℕ, List, [], ◌∷◌, Bool, true, false, Option, Some, None, Ok, Err, if◌then◌else◌, refl, sym, ap, ◌∙◌, subst, nat_cmp}
+use Rattle.std.proofs.Common.{◌≡◌, ℕ, List, Bool, true, false, Option, Some, None, Ok, Err, if◌then◌else◌, refl, sym, ap, ◌∙◌}
 use Rattle.std.specs.Str.{bytes_eq}
 use Rattle.std.specs.Ordering.{is_eq, ordering_reverse, match_ordering}
 use Rattle.std.specs.declared.cmp.Ordering.{Ordering}
@@ -12,7 +12,6 @@ use Rattle.value_core.specs.Value.{Value, Assigns, no_assigns, assign}
 use Rattle.ast_core.specs.Syntax.{Pairs, no_pairs, pair}
 use Rattle.doc_model.specs.Environment.{Env, lookup, with_key}
 use Rattle.doc_model.specs.Evaluation.{Res, then_do, on_res, both, keep_last, eval_expr, eval_pairs}
-use Rattle.expr_eval.proofs.Results.{both_on}
 
 turned : (k l : List ℕ) (o : Ordering) → order k l ≡ o → order l k ≡ ordering_reverse o
 turned k l o h = nat_list_cmp_total.antisymm l k ∙ ap ordering_reverse h

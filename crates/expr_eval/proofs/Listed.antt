@@ -1,5 +1,5 @@
 -- Lists of expressions, of pieces, of pairs and of items, one by one.
-use Rattle.std.proofs.Common.{◌≡◌, ℕ, ◌+◌, ◌<◌, ◌≤◌, List, [], ◌∷◌, ◌++◌, length, get_or, drop, map, Bool, true, false, Result, Ok, Err, refl, sym, ap, ◌∙◌, append_assoc, append-nil}
+use Rattle.std.proofs.Common.{◌≡◌, ℕ, ◌+◌, ◌<◌, ◌≤◌, List, [], ◌∷◌, ◌++◌, length, get_or, drop, map, Ok, Err, refl, sym, ap, ◌∙◌, append_assoc, append-nil}
 use Rattle.std.proofs.lemmas.List.{map-append, drop_all}
 use Rattle.text_core.specs.declared.by_key.KeyValue.{KeyValue}
 use Rattle.text_core.specs.Keyed as keyed
@@ -13,17 +13,17 @@ use Rattle.ast_core.specs.declared.expr.Expr.{Expr}
 use Rattle.ast_core.specs.declared.expr.TextPart.{TextPart}
 use Rattle.ast_core.specs.declared.expr.Pair.{Pair}
 use Rattle.ast_core.specs.Syntax as syntax
-use Rattle.ast_core.specs.ExprView.{Part, plain_part, expr_part, exprs_of, parts_of, pairs_of, expr_view, exprs_view}
+use Rattle.ast_core.specs.ExprView.{Part, plain_part, expr_part, parts_of, pairs_of, expr_view, exprs_view}
 use Rattle.ast_core.specs.NamesIn.{part_view, pair_view}
 use Rattle.doc_model.specs.Environment as scope
 use Rattle.doc_model.specs.Environment.{Env}
-use Rattle.doc_model.specs.Evaluation.{Res, then_do, on_res, both, eval_expr, eval_exprs, eval_parts, printed, joined, is_member}
+use Rattle.doc_model.specs.Evaluation.{Res, then_do, on_res, both, eval_expr, eval_exprs, eval_parts, printed, joined}
 use Rattle.expr_eval.specs.declared.fault.EvalFault.{EvalFault}
 use Rattle.expr_eval.specs.declared.fault.EvalFault.TheVariants.{Raised, OutOfMemory}
-use Rattle.expr_eval.specs.Gives.{Gives, text_as_is}
+use Rattle.expr_eval.specs.Gives.{Gives}
 use Rattle.expr_eval.specs.Operands.{joined_on}
 use Rattle.expr_eval.specs.Chains.{prepend, part_text}
-use Rattle.expr_eval.proofs.Results.{both_on, on_on}
+use Rattle.expr_eval.proofs.Results.{both_on}
 use Rattle.expr_eval.proofs.Views.{seen_with}
 use Rattle.expr_eval.proofs.Keys.{pairs_into}
 
@@ -41,26 +41,26 @@ prepend_err : (vs : List model.Value) (k : Raise) → prepend vs (Err k) ≡ Err
 prepend_err [] k = refl
 prepend_err (v ∷ vs) k = ap (on_res (value v)) (prepend_err vs k)
 
-pub exprs_on : (env : Env) (es : List Expr) (i : ℕ) (e : Expr) (vs : List Value) (v : Value) (total : Res Values) → i < length es → e ≡ get_or es i e
-    → total ≡ prepend (map view vs) (eval_exprs env (exprs_view (drop i es))) → eval_expr env (expr_view e) ≡ Ok (view v)
-    → total ≡ prepend (map view (vs ++ v ∷ [])) (eval_exprs env (exprs_view (drop (i + 1) es)))
-exprs_on env es i e vs v total h is so_far ev =
+pub exprs_on : {V : Type 0} (see : V → model.Value) (env : Env) (es : List Expr) (i : ℕ) (e : Expr) (vs : List V) (v : V) (total : Res Values) → i < length es → e ≡ get_or es i e
+    → total ≡ prepend (map see vs) (eval_exprs env (exprs_view (drop i es))) → eval_expr env (expr_view e) ≡ Ok (see v)
+    → total ≡ prepend (map see (vs ++ v ∷ [])) (eval_exprs env (exprs_view (drop (i + 1) es)))
+exprs_on see env es i e vs v total h is so_far ev =
     let rest = eval_exprs env (exprs_view (drop (i + 1) es)) in
-    so_far ∙ ap (λ d. prepend (map view vs) (eval_exprs env (exprs_view d))) (cons_at es i e h is)
-    ∙ ap (λ r. prepend (map view vs) (both value r rest)) ev ∙ ap (prepend (map view vs)) (both_on value (view v) rest)
-    ∙ sym (prepend_one (map view vs) (view v) rest) ∙ ap (λ l. prepend l rest) (sym (map-append view vs (v ∷ [])))
+    so_far ∙ ap (λ d. prepend (map see vs) (eval_exprs env (exprs_view d))) (cons_at es i e h is)
+    ∙ ap (λ r. prepend (map see vs) (both value r rest)) ev ∙ ap (prepend (map see vs)) (both_on value (see v) rest)
+    ∙ sym (prepend_one (map see vs) (see v) rest) ∙ ap (λ l. prepend l rest) (sym (map-append see vs (v ∷ [])))
 
-pub exprs_stop : {A B : Type 0} (to : A → model.Value) (all : B → Values) (env : Env) (es : List Expr) (i : ℕ) (e : Expr) (vs : List Value) (fault : EvalFault) (total : Res Values) → i < length es → e ≡ get_or es i e
-    → total ≡ prepend (map view vs) (eval_exprs env (exprs_view (drop i es))) → Gives to (Err fault) (eval_expr env (expr_view e)) → Gives all (Err fault) total
-exprs_stop to all env es i e vs (Raised k) total h is so_far stop =
+pub exprs_stop : {V : Type 0} (see : V → model.Value) {A B : Type 0} (to : A → model.Value) (all : B → Values) (env : Env) (es : List Expr) (i : ℕ) (e : Expr) (vs : List V) (fault : EvalFault) (total : Res Values) → i < length es → e ≡ get_or es i e
+    → total ≡ prepend (map see vs) (eval_exprs env (exprs_view (drop i es))) → Gives to (Err fault) (eval_expr env (expr_view e)) → Gives all (Err fault) total
+exprs_stop see to all env es i e vs (Raised k) total h is so_far stop =
     let rest = eval_exprs env (exprs_view (drop (i + 1) es)) in
-    so_far ∙ ap (λ d. prepend (map view vs) (eval_exprs env (exprs_view d))) (cons_at es i e h is)
-    ∙ ap (λ r. prepend (map view vs) (both value r rest)) stop ∙ prepend_err (map view vs) k
-exprs_stop to all env es i e vs OutOfMemory total h is so_far stop = tt
+    so_far ∙ ap (λ d. prepend (map see vs) (eval_exprs env (exprs_view d))) (cons_at es i e h is)
+    ∙ ap (λ r. prepend (map see vs) (both value r rest)) stop ∙ prepend_err (map see vs) k
+exprs_stop see to all env es i e vs OutOfMemory total h is so_far stop = tt
 
-pub exprs_end : (env : Env) (es : List Expr) (i : ℕ) (vs : List Value) (total : Res Values) → length es ≤ i
-    → total ≡ prepend (map view vs) (eval_exprs env (exprs_view (drop i es))) → total ≡ Ok (values_view vs)
-exprs_end env es i vs total h so_far = so_far ∙ ap (λ d. prepend (map view vs) (eval_exprs env (exprs_view d))) (drop_all i es h) ∙ prepend_end (map view vs)
+pub exprs_end : {V : Type 0} (see : V → model.Value) (env : Env) (es : List Expr) (i : ℕ) (vs : List V) (total : Res Values) → length es ≤ i
+    → total ≡ prepend (map see vs) (eval_exprs env (exprs_view (drop i es))) → total ≡ Ok (values_of (map see vs))
+exprs_end see env es i vs total h so_far = so_far ∙ ap (λ d. prepend (map see vs) (eval_exprs env (exprs_view d))) (drop_all i es h) ∙ prepend_end (map see vs)
 
 -- ---- pieces of a text
 

@@ -1,6 +1,5 @@
 -- Answers of calls, joined to one another.
-use Rattle.std.proofs.Common.{◌≡◌, List, Result, Ok, Err, refl, sym, ap, ◌∙◌, subst}
-use Rattle.value_core.specs.declared.raise.Raise.{Raise}
+use Rattle.std.proofs.Common.{◌≡◌, Result, Ok, Err, refl, sym, ap, subst}
 use Rattle.doc_model.specs.Evaluation.{Res, then_do, on_res, both}
 use Rattle.expr_eval.specs.declared.fault.EvalFault.{EvalFault}
 use Rattle.expr_eval.specs.declared.fault.EvalFault.TheVariants.{Raised, OutOfMemory}

@@ -1,6 +1,5 @@
 -- Values, lists and maps as they are seen.
-use Rattle.std.proofs.Common.{◌≡◌, ℕ, suc, List, [], ◌∷◌, ◌++◌, length, map, reverse, Bool, true, false, Option, Some, None, Ok, Err, option_map, is_some, IfSome, if◌then◌else◌, refl, sym, ap, ◌∙◌}
-use denote.Ref.{Bor}
+use Rattle.std.proofs.Common.{◌≡◌, ℕ, suc, List, [], ◌∷◌, ◌++◌, length, reverse, Bool, true, false, Option, Some, None, Err, option_map, is_some, if◌then◌else◌, refl, sym, ap, ◌∙◌}
 use Rattle.std.specs.Str.{bytes_eq}
 use Rattle.std.specs.Ordering.{nat_cmp, match_ordering}
 use Rattle.std.specs.Cmp.Lexicographic.{slice_cmp}
@@ -16,12 +15,12 @@ use Rattle.value_core.specs.declared.value.Value.{Value}
 use Rattle.value_core.specs.declared.value.Value.TheVariants as form
 use Rattle.value_core.specs.declared.value.Value.TheOpen.{Value-F}
 use Rattle.value_core.specs.declared.value.Value.TheFolds.{fold-roll-Value}
-use Rattle.value_core.specs.declared.raise.Raise.{Raise}
 use Rattle.value_core.specs.declared.raise.Raise.TheVariants.{BadArgument}
 use Rattle.ast_core.specs.declared.operators.Function.{Function}
 use Rattle.doc_model.specs.Environment as scope
-use Rattle.doc_model.specs.Evaluation.{append_values, reverse_values, value_count, assign_count, is_some as is_there, eval_function, Res, or_raise}
-use Rattle.expr_eval.specs.Scope.{seen}
+use Rattle.doc_model.specs.Evaluation.{append_values, reverse_values, value_count, assign_count, is_some as is_there, eval_function}
+use Rattle.expr_eval.specs.declared.held.Held.{Held}
+use Rattle.expr_eval.specs.Held.{held_values}
 
 choose : (b : Bool) (v : Value) (o : Option Value) (m : Option model.Value) → option_map view o ≡ m → option_map view (if b then Some v else o) ≡ (if b then Some (view v) else m)
 choose true v o m h = refl
@@ -50,11 +49,6 @@ pub over_seen : (k : List ℕ) (gs es : List (KeyValue Value)) (o : Option Value
 over_seen k gs es o h =
     lookup_over k (assigns_view gs) (assigns_view es)
     ∙ ap (λ m. first_of m (scope.lookup k (assigns_view es))) (sym (lookup_seen k gs) ∙ ap (option_map view) (sym h))
-
--- what is there is no raise
-pub placed : (o : Option (Bor Value)) (raise : Raise) (r : Res model.Value) → r ≡ or_raise (seen o) raise → IfSome o (λ v. r ≡ Ok (view v.now))
-placed None raise r h = tt
-placed (Some v) raise r h = h
 
 there : (o : Option Value) → is_there (option_map view o) ≡ is_some o
 there None = refl
@@ -101,7 +95,7 @@ pub map_form : (es : List (KeyValue Value)) → view (form.Map es) ≡ model.map
 map_form es = ap view (sym (form.rolls-Map es)) ∙ fold-roll-Value model.Value model.Value view_step slot_step (Value-F.Map es)
 
 -- no function takes none or more than three arguments
-pub other_count : (f : Function) (xs : List Value) → (length xs ≡ 1 → ⊥) → (length xs ≡ 2 → ⊥) → (length xs ≡ 3 → ⊥) → eval_function f (values_view xs) ≡ Err BadArgument
+pub other_count : (f : Function) (hs : List Held) → (length hs ≡ 1 → ⊥) → (length hs ≡ 2 → ⊥) → (length hs ≡ 3 → ⊥) → eval_function f (held_values hs) ≡ Err BadArgument
 other_count f [] one two three = refl
 other_count f (x ∷ []) one two three = absurd (one refl)
 other_count f (x ∷ y ∷ []) one two three = absurd (two refl)

@@ -1,8 +1,7 @@
 -- Chains of operators, steps and pipes, from the value that stands first.
-use Rattle.std.specs.Prelude.{ℕ, List, [], ◌∷◌, Ok, Err}
+use Rattle.std.specs.Prelude.{ℕ, List, [], ◌∷◌, Ok}
 use Rattle.value_core.specs.Value as model
 use Rattle.value_core.specs.Value.{Values, value}
-use Rattle.value_core.specs.View.{view}
 use Rattle.ast_core.specs.declared.operators.BinaryOp.{BinaryOp}
 use Rattle.ast_core.specs.declared.operators.Function.{Function}
 use Rattle.ast_core.specs.Syntax.{Expr, Exprs}
@@ -10,6 +9,7 @@ use Rattle.ast_core.specs.ExprView.{Step, field_step, index_step, Part, plain_pa
 use Rattle.doc_model.specs.Environment.{Env}
 use Rattle.doc_model.specs.Evaluation.{Res, then_do, on_res, or_else_do, decided, printed, field_of, index_of, eval_binary, eval_function, eval_expr, eval_exprs}
 use Rattle.expr_eval.specs.declared.right_chain.Waiting.{Waiting}
+use Rattle.expr_eval.specs.Held.{held_view}
 
 -- each step takes the value before it, unless an earlier one raised
 abbrev pub chain : {X : Type 0} → (X → model.Value → Res model.Value) → Res model.Value → List X → Res model.Value
@@ -36,7 +36,7 @@ right_on env v (o ∷ os) = or_else_do (decided o.0 v) (then_do (eval_expr env (
 
 -- a left value that waits for its right operand
 abbrev pub waiting_view : Waiting → BinaryOp × model.Value
-waiting_view w = (w.op, view w.left)
+waiting_view w = (w.op, held_view w.left)
 
 -- the waiting values and their operators, the last first
 abbrev pub back : List (BinaryOp × model.Value) → Res model.Value → Res model.Value

@@ -1,5 +1,6 @@
 -- What a call answers that evaluates.
 use Rattle.std.specs.Prelude.{◌≡◌, ℕ, ℤ, List, Bool, Result, Ok, Err}
+use denote.Ref.{Bor}
 use Rattle.doc_model.specs.Evaluation.{Res}
 use Rattle.expr_eval.specs.declared.fault.EvalFault.{EvalFault}
 use Rattle.expr_eval.specs.declared.fault.EvalFault.TheVariants.{Raised, OutOfMemory}
@@ -13,6 +14,9 @@ Gives f (Err OutOfMemory) r = Unit {0}
 -- a text, a truth and a pair of numbers are seen as they are
 abbrev pub text_as_is : List ℕ → List ℕ
 text_as_is t = t
+
+abbrev pub str_as_is : Bor (List ℕ) → List ℕ
+str_as_is t = t.now
 
 abbrev pub truth_as_is : Bool → Bool
 truth_as_is b = b

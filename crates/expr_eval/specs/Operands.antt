@@ -1,6 +1,6 @@
 -- The kinds that operands and arguments are judged by.
-use Rattle.std.specs.Prelude.{ℕ, ℤ, List, Bool, true, false, not, Option, Some, None, Ok, Err, ◌++◌}
-use Rattle.value_core.specs.Value.{Value, boolean, whole_number, text, list, map_of, Values, no_values, value, Assigns}
+use Rattle.std.specs.Prelude.{ℕ, ℤ, List, Bool, false, not, Ok, Err, ◌++◌}
+use Rattle.value_core.specs.Value.{Value, boolean, whole_number, text, list, Values, no_values, value}
 use Rattle.value_core.specs.declared.raise.Raise.TheVariants.{BadArgument, BadBoolean}
 use Rattle.ast_core.specs.declared.operators.BinaryOp.{BinaryOp}
 use Rattle.ast_core.specs.declared.operators.BinaryOp.TheVariants.{OrElse, Or, AndAlso, And}

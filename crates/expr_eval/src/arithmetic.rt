@@ -5,15 +5,17 @@ ghost use Rattle.value_core.specs.View.{view};
 ghost use Rattle.ast_core.specs.declared.operators.UnaryOp.TheVariants.{Minus as Negative};
 ghost use Rattle.doc_model.specs.Evaluation.{arithmetic, within, quotient as quotient_of, remainder as remainder_of, absolute as absolute_of, eval_unary};
 ghost use Rattle.expr_eval.specs.Gives.{Gives};
+ghost use Rattle.expr_eval.specs.Held.{held_view};
 
 use crate::EvalFault;
-use crate::judge::numbers;
+use crate::held::Held;
+use crate::judge::{numbers, were_numbers};
 use value_core::{Raise, Value};
 
-pub(crate) fn sum(left: Value, right: Value) -> Result<Value, EvalFault>
-    ensures { Gives view result (arithmetic (λ x y. x +ℤ y) (view left) (view right)) }
+pub(crate) fn sum(left: Held<'_>, right: Held<'_>) -> Result<Value, EvalFault>
+    ensures { Gives view result (arithmetic (λ x y. x +ℤ y) (held_view left.entry) (held_view right.entry)) }
 {
-    let (x, y) = numbers(&left, &right)?;
+    let (x, y) = were_numbers(left, right)?;
     add(x, y)
 }
 
@@ -26,10 +28,10 @@ fn add(x: i64, y: i64) -> Result<Value, EvalFault>
     }
 }
 
-pub(crate) fn difference(left: Value, right: Value) -> Result<Value, EvalFault>
-    ensures { Gives view result (arithmetic (λ x y. x -ℤ y) (view left) (view right)) }
+pub(crate) fn difference(left: Held<'_>, right: Held<'_>) -> Result<Value, EvalFault>
+    ensures { Gives view result (arithmetic (λ x y. x -ℤ y) (held_view left.entry) (held_view right.entry)) }
 {
-    let (x, y) = numbers(&left, &right)?;
+    let (x, y) = were_numbers(left, right)?;
     subtract(x, y)
 }
 
@@ -42,10 +44,10 @@ fn subtract(x: i64, y: i64) -> Result<Value, EvalFault>
     }
 }
 
-pub(crate) fn product(left: Value, right: Value) -> Result<Value, EvalFault>
-    ensures { Gives view result (arithmetic (λ x y. x *ℤ y) (view left) (view right)) }
+pub(crate) fn product(left: Held<'_>, right: Held<'_>) -> Result<Value, EvalFault>
+    ensures { Gives view result (arithmetic (λ x y. x *ℤ y) (held_view left.entry) (held_view right.entry)) }
 {
-    let (x, y) = numbers(&left, &right)?;
+    let (x, y) = were_numbers(left, right)?;
     multiply(x, y)
 }
 

@@ -1,34 +1,45 @@
 //! The functions that an expression may call.
 ghost use Rattle.std.specs.Prelude.{◌≡◌, pos, Ok, if◌then◌else◌};
 ghost use Rattle.value_core.specs.Value.{whole_number, text};
-ghost use Rattle.value_core.specs.View.{view, values_view};
+ghost use Rattle.value_core.specs.View.{view};
 ghost use Rattle.doc_model.specs.Evaluation.{call_one, call_two, call_three, eval_function, count_of};
 ghost use Rattle.ast_core.specs.declared.operators.Function.TheVariants as function;
 ghost use Rattle.expr_eval.specs.Gives.{Gives, number_as_is};
+ghost use Rattle.expr_eval.specs.Held.{held_view, held_values};
 
 use crate::EvalFault;
 use crate::arithmetic::{absolute, quotient, remainder};
+use crate::held::Held;
 use crate::judge::{is_nil, less};
 use crate::lists::reversed;
-use crate::maps::{get, has_key};
+use crate::maps::{get, get_or_nil, has_key};
 use crate::text::{join, print};
 use ast_core::Function;
 use std::alloc::Global;
-use value_core::{Raise, Value, Values, copy};
+use text_core::Seq;
+use value_core::{Raise, Value};
 
 /// A call, whose arguments are there.
-pub(crate) fn call(alloc: Global, function: Function, arguments: Values) -> Result<Value, EvalFault>
-    ensures { Gives view result (eval_function function (values_view arguments)) }
+pub(crate) fn call<'a>(
+    alloc: Global,
+    function: Function,
+    arguments: Seq<Held<'a>>,
+) -> Result<Held<'a>, EvalFault>
+    ensures { Gives held_view result (eval_function function (held_values arguments.entry)) }
 {
     call_with(alloc, function, arguments.as_slice())
 }
 
-fn call_with(alloc: Global, function: Function, arguments: &[Value]) -> Result<Value, EvalFault>
-    ensures { Gives view result (eval_function function (values_view arguments.now)) }
+fn call_with<'a>(
+    alloc: Global,
+    function: Function,
+    arguments: &[Held<'a>],
+) -> Result<Held<'a>, EvalFault>
+    ensures { Gives held_view result (eval_function function (held_values arguments.now)) }
 {
     match arguments {
         [] => Err(EvalFault::Raised(Raise::BadArgument)),
-        [one] => call_with_one(alloc, function, one),
+        [one] => Ok(Held::Owned(call_with_one(alloc, function, one.value())?)),
         [one, two] => call_with_two(alloc, function, one, two),
         [one, two, three] => call_with_three(alloc, function, one, two, three),
         [_, _, _, _, ..] => Err(EvalFault::Raised(Raise::BadArgument)),
@@ -51,49 +62,54 @@ fn call_with_one(alloc: Global, function: Function, value: &Value) -> Result<Val
     }
 }
 
-fn call_with_two(
+fn call_with_two<'a>(
     alloc: Global,
     function: Function,
-    one: &Value,
-    two: &Value,
-) -> Result<Value, EvalFault>
-    ensures { Gives view result (call_two function (view one.now) (view two.now)) }
+    one: &Held<'a>,
+    two: &Held<'a>,
+) -> Result<Held<'a>, EvalFault>
+    ensures { Gives held_view result (call_two function (held_view one.now) (held_view two.now)) }
 {
     match function {
-        Function::Div => quotient(one, two),
-        Function::Rem => remainder(one, two),
-        Function::Max => either(alloc, less(one, two)?, two, one),
-        Function::Min => either(alloc, less(two, one)?, two, one),
-        Function::Join => join_by(alloc, one, two),
-        Function::Get => get(alloc, one, two, &Value::Nil),
-        Function::HasKey => Ok(Value::Bool(has_key(one, two)?)),
+        Function::Div => Ok(Held::Owned(quotient(one.value(), two.value())?)),
+        Function::Rem => Ok(Held::Owned(remainder(one.value(), two.value())?)),
+        Function::Max => either(alloc, less(one.value(), two.value())?, two, one),
+        Function::Min => either(alloc, less(two.value(), one.value())?, two, one),
+        Function::Join => Ok(Held::Owned(join_by(alloc, one.value(), two.value())?)),
+        Function::Get => get_or_nil(alloc, one, two.value()),
+        Function::HasKey => Ok(Held::Owned(Value::Bool(has_key(one.value(), two.value())?))),
         _ => Err(EvalFault::Raised(Raise::BadArgument)),
     }
 }
 
-fn call_with_three(
+fn call_with_three<'a>(
     alloc: Global,
     function: Function,
-    one: &Value,
-    two: &Value,
-    three: &Value,
-) -> Result<Value, EvalFault>
-    ensures { Gives view result (call_three function (view one.now) (view two.now) (view three.now)) }
+    one: &Held<'a>,
+    two: &Held<'a>,
+    three: &Held<'a>,
+) -> Result<Held<'a>, EvalFault>
+    ensures { Gives held_view result (call_three function (held_view one.now) (held_view two.now) (held_view three.now)) }
 {
     match function {
-        Function::Get => get(alloc, one, two, three),
+        Function::Get => get(alloc, one, two.value(), three),
         _ => Err(EvalFault::Raised(Raise::BadArgument)),
     }
 }
 
-// A copy of the first value where it is chosen, else of the second.
-fn either(alloc: Global, is_first: bool, first: &Value, second: &Value) -> Result<Value, EvalFault>
-    ensures { Gives view result (Ok (if is_first then view first.now else view second.now)) }
+// The first value where it is chosen, else the second.
+fn either<'a>(
+    alloc: Global,
+    is_first: bool,
+    first: &Held<'a>,
+    second: &Held<'a>,
+) -> Result<Held<'a>, EvalFault>
+    ensures { Gives held_view result (Ok (if is_first then held_view first.now else held_view second.now)) }
 {
     if is_first {
-        Ok(copy(alloc, first)?)
+        Ok(first.again(alloc)?)
     } else {
-        Ok(copy(alloc, second)?)
+        Ok(second.again(alloc)?)
     }
 }
 

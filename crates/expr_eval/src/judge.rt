@@ -4,10 +4,12 @@ ghost use Rattle.std.specs.Ordering.{nat_cmp, match_ordering};
 ghost use Rattle.std.specs.Cmp.Lexicographic.{slice_cmp};
 ghost use Rattle.value_core.specs.View.{view, values_view};
 ghost use Rattle.doc_model.specs.Evaluation.{is_true as is_true_value, is_nil as is_nil_value, less_than, key_of as key_in, shallow as shallow_value, or_raise, on_res};
-ghost use Rattle.expr_eval.specs.Gives.{Gives, text_as_is, truth_as_is, pair_as_is};
+ghost use Rattle.expr_eval.specs.Gives.{Gives, text_as_is, str_as_is, truth_as_is, pair_as_is};
+ghost use Rattle.expr_eval.specs.Held.{held_view};
 ghost use Rattle.expr_eval.specs.Operands.{numbers_in, boolean_in, text_in, values_in, decides as decides_alone};
 
 use crate::EvalFault;
+use crate::held::Held;
 use ast_core::BinaryOp;
 use std::cmp::Ordering;
 use text_core::Text;
@@ -28,10 +30,10 @@ pub fn is_true(value: &Value) -> bool
 }
 
 /// Whether the value, which goes, is true.
-pub(crate) fn was_true(value: Value) -> bool
-    ensures { result ≡ is_true_value (view value) }
+pub(crate) fn was_true(value: Held<'_>) -> bool
+    ensures { result ≡ is_true_value (held_view value.entry) }
 {
-    is_true(&value)
+    is_true(value.value())
 }
 
 pub(crate) fn is_nil(value: &Value) -> bool
@@ -57,6 +59,23 @@ pub(crate) fn numbers(left: &Value, right: &Value) -> Result<(i64, i64), EvalFau
 {
     match (left, right) {
         (Value::Int(x), Value::Int(y)) => Ok((*x, *y)),
+        _ => Err(EvalFault::Raised(Raise::BadArgument)),
+    }
+}
+
+/// The two whole numbers that values, which go, are.
+pub(crate) fn were_numbers(left: Held<'_>, right: Held<'_>) -> Result<(i64, i64), EvalFault>
+    ensures { Gives pair_as_is result (numbers_in (held_view left.entry) (held_view right.entry)) }
+{
+    numbers(left.value(), right.value())
+}
+
+/// The text that a value is, looked at.
+pub(crate) fn as_text(value: &Value) -> Result<&str, EvalFault>
+    ensures { Gives str_as_is result (text_in (view value.now)) }
+{
+    match value {
+        Value::Text(text) => Ok(text.as_str()),
         _ => Err(EvalFault::Raised(Raise::BadArgument)),
     }
 }
@@ -120,6 +139,13 @@ pub(crate) fn shallow(value: Value) -> Result<Value, EvalFault>
         return Err(EvalFault::Raised(Raise::Deep));
     }
     Ok(value)
+}
+
+/// A value that was built, of at most 100 levels.
+pub(crate) fn built<'a>(value: Value) -> Result<Held<'a>, EvalFault>
+    ensures { Gives held_view result (shallow_value (view value)) }
+{
+    Ok(Held::Owned(shallow(value)?))
 }
 
 /// Whether the left operand of an operator decides alone: it is then the value.

@@ -5,6 +5,7 @@ mod arithmetic;
 mod evaluate;
 mod fault;
 mod functions;
+mod held;
 mod judge;
 mod lists;
 mod maps;

@@ -1,24 +1,26 @@
 //! The entries of maps, and of the names in scope.
-ghost use Rattle.std.specs.Prelude.{◌≡◌, ℕ, List, Ok};
+ghost use Rattle.std.specs.Prelude.{◌≡◌, ℕ, List, Ok, option_map};
 ghost use Rattle.value_core.specs.Value.{nil};
 ghost use Rattle.value_core.specs.View.{view, assigns_view};
 ghost use Rattle.value_core.specs.declared.raise.Raise.TheVariants as raise;
 ghost use Rattle.doc_model.specs.Environment.{lookup as lookup_in};
 ghost use Rattle.doc_model.specs.Evaluation.{or_raise, on_res, or_value, key_of as key_in, field_of, index_of, entry_at, is_some as is_there};
 ghost use Rattle.expr_eval.specs.Gives.{Gives, truth_as_is};
+ghost use Rattle.expr_eval.specs.Held.{held_view};
 ghost use Rattle.expr_eval.specs.Scope.{seen, place_view};
 
 use crate::EvalFault;
+use crate::held::Held;
 use crate::judge::key_of;
 use std::alloc::Global;
 use value_core::{Assigns, Raise, Value, copy};
 
-/// A copy of a value, where there is one.
-pub(crate) fn found(alloc: Global, value: Option<&Value>, absent: Raise) -> Result<Value, EvalFault>
-    ensures { Gives view result (or_raise (seen value.entry) absent) }
+/// A value where it stands, if there is one.
+pub(crate) fn found<'a>(value: Option<&'a Value>, absent: Raise) -> Result<Held<'a>, EvalFault>
+    ensures { Gives held_view result (or_raise (seen value.entry) absent) }
 {
     match value {
-        Some(value) => Ok(copy(alloc, value)?),
+        Some(value) => Ok(Held::Borrowed(value)),
         None => Err(EvalFault::Raised(absent)),
     }
 }
@@ -62,10 +64,13 @@ fn entry<'a>(entries: &'a Assigns, key: &str) -> Result<Option<&'a Value>, EvalF
 }
 
 /// `m[k]`, where it stands: nothing stands for nil.
-pub(crate) fn index<'a>(at: Option<&'a Value>, key: Value) -> Result<Option<&'a Value>, EvalFault>
-    ensures { Gives place_view result (index_of (place_view at.entry) (view key)) }
+pub(crate) fn index<'a>(
+    at: Option<&'a Value>,
+    key: Held<'_>,
+) -> Result<Option<&'a Value>, EvalFault>
+    ensures { Gives place_view result (index_of (place_view at.entry) (held_view key.entry)) }
 {
-    index_by(at, &key)
+    index_by(at, key.value())
 }
 
 fn index_by<'a>(at: Option<&'a Value>, key: &Value) -> Result<Option<&'a Value>, EvalFault>
@@ -98,31 +103,69 @@ fn nil_at<'a>(key: &Value) -> Result<Option<&'a Value>, EvalFault>
 }
 
 /// The value at a key of a map, or else the default.
-pub(crate) fn get(
+pub(crate) fn get<'a>(
     alloc: Global,
-    map: &Value,
+    map: &Held<'a>,
     key: &Value,
-    default: &Value,
-) -> Result<Value, EvalFault>
-    ensures { Gives view result (on_res (or_value (view default.now)) (entry_at (view map.now) (view key.now))) }
+    default: &Held<'a>,
+) -> Result<Held<'a>, EvalFault>
+    ensures { Gives held_view result (on_res (or_value (held_view default.now)) (entry_at (held_view map.now) (view key.now))) }
 {
-    match map {
-        Value::Map(entries) => copy_or(alloc, entries, key, default),
-        _ => Err(EvalFault::Raised(Raise::BadArgument)),
+    match entry_held(alloc, map, key)? {
+        Some(value) => Ok(value),
+        None => Ok(default.again(alloc)?),
     }
 }
 
-fn copy_or(
+/// The value at a key of a map, or else nil.
+pub(crate) fn get_or_nil<'a>(
     alloc: Global,
-    entries: &Assigns,
+    map: &Held<'a>,
     key: &Value,
-    default: &Value,
-) -> Result<Value, EvalFault>
-    ensures { Gives view result (on_res (λ k. or_value (view default.now) (lookup_in k (assigns_view entries.now))) (key_in (view key.now))) }
+) -> Result<Held<'a>, EvalFault>
+    ensures { Gives held_view result (on_res (or_value nil) (entry_at (held_view map.now) (view key.now))) }
 {
-    match entry_or_none(entries, key)? {
-        Some(value) => Ok(copy(alloc, value)?),
-        None => Ok(copy(alloc, default)?),
+    match entry_held(alloc, map, key)? {
+        Some(value) => Ok(value),
+        None => Ok(Held::Owned(Value::Nil)),
+    }
+}
+
+// The entry of a map: a part of what stands in scope stands there too.
+fn entry_held<'a>(alloc: Global, map: &Held<'a>, key: &Value) -> Result<Option<Held<'a>>, EvalFault>
+    ensures { Gives (option_map held_view) result (entry_at (held_view map.now) (view key.now)) }
+{
+    match map {
+        Held::Borrowed(map) => Ok(standing(entry_of(*map, key)?)),
+        Held::Owned(map) => copied_out(alloc, entry_of(map, key)?),
+    }
+}
+
+fn standing<'a>(value: Option<&'a Value>) -> Option<Held<'a>>
+    ensures { option_map held_view result ≡ seen value.entry }
+{
+    match value {
+        Some(value) => Some(Held::Borrowed(value)),
+        None => None,
+    }
+}
+
+fn copied_out<'a>(alloc: Global, value: Option<&Value>) -> Result<Option<Held<'a>>, EvalFault>
+    ensures { Gives (option_map held_view) result (Ok (seen value.entry)) }
+{
+    match value {
+        Some(value) => Ok(Some(Held::Owned(copy(alloc, value)?))),
+        None => Ok(None),
+    }
+}
+
+// The entry of a map, where it stands.
+fn entry_of<'a>(map: &'a Value, key: &Value) -> Result<Option<&'a Value>, EvalFault>
+    ensures { Gives seen result (entry_at (view map.now) (view key.now)) }
+{
+    match map {
+        Value::Map(entries) => entry_or_none(entries, key),
+        _ => Err(EvalFault::Raised(Raise::BadArgument)),
     }
 }
 

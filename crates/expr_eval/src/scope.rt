@@ -1,12 +1,8 @@
 //! What is in scope of an expression.
-ghost use Rattle.std.specs.Prelude.{◌≡◌, IfSome, Ok};
-ghost use Rattle.value_core.specs.View.{view};
-ghost use Rattle.ast_core.specs.ExprView.{expr_view};
+ghost use Rattle.std.specs.Prelude.{◌≡◌};
 ghost use Rattle.doc_model.specs.Environment.{lookup};
-ghost use Rattle.doc_model.specs.Evaluation.{eval_expr};
 ghost use Rattle.expr_eval.specs.Scope.{env_of, seen};
 
-use ast_core::Expr;
 use value_core::{Assigns, Value};
 
 /// Given assigns, the assigns that they stand over, and the variables.
@@ -33,16 +29,5 @@ impl<'a> Scope<'a> {
         ensures { seen result ≡ lookup key.now (env_of self.entry).variables }
     {
         self.variables.get(key)
-    }
-}
-
-/// The value of an assign or a variable that is there, where it stands.
-pub(crate) fn place<'a>(expr: &Expr, scope: Scope<'a>) -> Option<&'a Value>
-    ensures { IfSome result (λ v. eval_expr (env_of scope.entry) (expr_view expr.now) ≡ Ok (view v.now)) }
-{
-    match expr {
-        Expr::Assign(name) => scope.assign(name.as_str()),
-        Expr::Name(name) => scope.variable(name.as_str()),
-        _ => None,
     }
 }

@@ -1,6 +1,6 @@
 //! Small expressions, against worked examples.
 use crate::{EvalFault, eval, eval_over};
-use ast_core::{BinaryOp, Expr, Operand, PathStep};
+use ast_core::{BinaryOp, Expr, Function, Operand, PathStep};
 use std::alloc::Global;
 use std::test::Fail;
 use text_core::{ByKey, OutOfMemory, Seq, Text};
@@ -39,6 +39,64 @@ fn entry(alloc: Global, key: &str, value: Value) -> Result<Assigns, OutOfMemory>
 
 fn assign(alloc: Global, name: &str) -> Result<Expr, OutOfMemory> {
     Ok(Expr::Assign(Text::copy_of(alloc, name)?))
+}
+
+// `rows` with the list of 5 and 3.
+fn rows(alloc: Global) -> Result<Assigns, OutOfMemory> {
+    let mut items = Seq::new(alloc);
+    items.push(Value::Int(5))?;
+    items.push(Value::Int(3))?;
+    entry(alloc, "rows", Value::List(items))
+}
+
+// Two lists, one after the other.
+fn joined(alloc: Global, first: Expr, value: Expr) -> Result<Expr, OutOfMemory> {
+    let mut rest = Seq::new(alloc);
+    let op = BinaryOp::Append;
+    rest.push(Operand { op, value })?;
+    let first = Box::new(alloc, first)?;
+    Ok(Expr::RightChain { first, rest })
+}
+
+// The entry of a map at an atom.
+fn entry_at(alloc: Global, map: Expr, key: &str) -> Result<Expr, OutOfMemory> {
+    let key = Text::copy_of(alloc, key)?;
+    call_two(alloc, Function::Get, map, Expr::Atom(key))
+}
+
+// An operator between two expressions.
+fn between(alloc: Global, first: Expr, op: BinaryOp, value: Expr) -> Result<Expr, OutOfMemory> {
+    let mut rest = Seq::new(alloc);
+    rest.push(Operand { op, value })?;
+    let first = Box::new(alloc, first)?;
+    Ok(Expr::LeftChain { first, rest })
+}
+
+// A call with one argument.
+fn call_one(alloc: Global, function: Function, one: Expr) -> Result<Expr, OutOfMemory> {
+    let mut arguments = Seq::new(alloc);
+    arguments.push(one)?;
+    Ok(Expr::Call {
+        function,
+        arguments,
+    })
+}
+
+// A call with two arguments.
+fn call_two(alloc: Global, function: Function, one: Expr, two: Expr) -> Result<Expr, OutOfMemory> {
+    let mut arguments = Seq::new(alloc);
+    arguments.push(one)?;
+    arguments.push(two)?;
+    Ok(Expr::Call {
+        function,
+        arguments,
+    })
+}
+
+// The value of an expression over some assigns.
+fn over(alloc: Global, assigns: &Assigns, expr: &Expr) -> Result<Value, EvalFault> {
+    let variables = ByKey::new(alloc);
+    eval(alloc, assigns, &variables, expr)
 }
 
 #[test]
@@ -142,5 +200,72 @@ fn given_over_others(rt: HostRuntime) -> Result<(), Fail> {
     assert!(rt; matches!(&value, Value::Int(3)));
     let value = eval(alloc, &assigns, &variables, &title)?;
     assert!(rt; matches!(&value, Value::Int(2)));
+    Ok(())
+}
+
+#[test]
+fn a_list_in_scope_joined_to_itself(rt: HostRuntime) -> Result<(), Fail> {
+    let alloc = rt.alloc();
+    let assigns = rows(alloc)?;
+    let twice = joined(alloc, assign(alloc, "rows")?, assign(alloc, "rows")?)?;
+    let expr = call_one(alloc, Function::Length, twice)?;
+    let value = over(alloc, &assigns, &expr)?;
+    assert!(rt; matches!(&value, Value::Int(4)));
+    Ok(())
+}
+
+#[test]
+fn operands_come_before_their_kinds(rt: HostRuntime) -> Result<(), Fail> {
+    let alloc = rt.alloc();
+    let assigns = rows(alloc)?;
+    let absent = assign(alloc, "absent")?;
+    let expr = between(alloc, assign(alloc, "rows")?, BinaryOp::Plus, absent)?;
+    assert_eq!(rt;
+        over(alloc, &assigns, &expr).err(),
+        Some(EvalFault::Raised(Raise::NoAssign))
+    );
+    Ok(())
+}
+
+#[test]
+fn a_list_in_scope_is_not_nil(rt: HostRuntime) -> Result<(), Fail> {
+    let alloc = rt.alloc();
+    let assigns = rows(alloc)?;
+    let expr = between(alloc, assign(alloc, "rows")?, BinaryOp::Equal, Expr::Nil)?;
+    let value = over(alloc, &assigns, &expr)?;
+    assert!(rt; matches!(&value, Value::Bool(false)));
+    Ok(())
+}
+
+#[test]
+fn an_entry_of_a_map_in_scope(rt: HostRuntime) -> Result<(), Fail> {
+    let alloc = rt.alloc();
+    let map = rows(alloc)?;
+    let assigns = entry(alloc, "page", Value::Map(map))?;
+    let expr = entry_at(alloc, assign(alloc, "page")?, "rows")?;
+    let value = over(alloc, &assigns, &expr)?;
+    assert!(rt; matches!(&value, Value::List(_)));
+    Ok(())
+}
+
+#[test]
+fn an_index_of_what_is_no_place(rt: HostRuntime) -> Result<(), Fail> {
+    let alloc = rt.alloc();
+    let mut steps = Seq::new(alloc);
+    steps.push(PathStep::Index(Expr::Atom(Text::copy_of(alloc, "home")?)))?;
+    let value = Box::new(alloc, Expr::Nil)?;
+    let value = evaluated(alloc, &Expr::Path { value, steps })?;
+    assert!(rt; matches!(&value, Value::Nil));
+    Ok(())
+}
+
+#[test]
+fn the_greater_is_a_number(rt: HostRuntime) -> Result<(), Fail> {
+    let alloc = rt.alloc();
+    let assigns = entry(alloc, "count", Value::Int(7))?;
+    let count = assign(alloc, "count")?;
+    let expr = call_two(alloc, Function::Max, count, Expr::Number(8))?;
+    let value = over(alloc, &assigns, &expr)?;
+    assert!(rt; matches!(&value, Value::Int(8)));
     Ok(())
 }

@@ -3,9 +3,11 @@ ghost use Rattle.std.specs.Prelude.{◌≡◌, ◌++◌};
 ghost use Rattle.value_core.specs.View.{view, values_view};
 ghost use Rattle.doc_model.specs.Evaluation.{printed, joined, on_res};
 ghost use Rattle.expr_eval.specs.Gives.{Gives, text_as_is};
+ghost use Rattle.expr_eval.specs.Held.{held_view};
 ghost use Rattle.expr_eval.specs.Operands.{joined_on};
 
 use crate::EvalFault;
+use crate::held::Held;
 use std::alloc::Global;
 use text_core::Text;
 use value_core::{PrintFault, Raise, Value, Values, to_text};
@@ -22,10 +24,10 @@ pub(crate) fn print(alloc: Global, value: &Value) -> Result<Text, EvalFault>
 }
 
 /// The text of a value, which goes.
-pub(crate) fn printed_out(alloc: Global, value: Value) -> Result<Text, EvalFault>
-    ensures { Gives text_as_is result (printed (view value)) }
+pub(crate) fn printed_out(alloc: Global, value: Held<'_>) -> Result<Text, EvalFault>
+    ensures { Gives text_as_is result (printed (held_view value.entry)) }
 {
-    print(alloc, &value)
+    print(alloc, value.value())
 }
 
 /// The texts of the items, with a text between them.

@@ -82,6 +82,29 @@ fn events(rt: HostRuntime) -> Result<(), Fail> {
     Ok(())
 }
 
+// Attributes and spreads: an attribute is sent as a whole, and where an assign that it reads changed.
+#[test]
+fn attributes(rt: HostRuntime) -> Result<(), Fail> {
+    let alloc = rt.alloc();
+    for (template, script, text) in [
+        (
+            "<a title={\"<&\\\"'>\"} id={nil} hidden={true} lang={false} class={[\"x\", nil, false, \"y\"]}>{\"<&\\\"'>\"}{nil}</a><i class={nil}></i>",
+            "html A\n",
+            "== A html 99\n<a title=\"&lt;&amp;&quot;&#39;&gt;\" hidden class=\"x y\">&lt;&amp;&quot;&#39;&gt;</a><i class=\"\"></i>\n",
+        ),
+        (
+            "<b title={@n} {%{k: @m, n: nil}}>x</b>",
+            "event A click inc {}\nrun A\nframes A\nhtml A\n",
+            "== A frames 2\n[\"1\",\"1\",\"lv:A\",\"phx_reply\",{\"response\":{\"rendered\":{\"0\":\" title=\\\"0\\\"\",\"1\":\" k=\\\"7\\\"\",\"s\":[\"<b\",\"\",\">x</b>\"]}},\"status\":\"ok\"}]\n[\"1\",\"2\",\"lv:A\",\"phx_reply\",{\"response\":{\"diff\":{\"0\":\" title=\\\"1\\\"\"}},\"status\":\"ok\"}]\n== A html 24\n<b title=\"1\" k=\"7\">x</b>\n",
+        ),
+    ] {
+        let (status, out) = played(alloc, template, script)?;
+        assert_eq!(rt; status, Status::Done);
+        assert_eq!(rt; out.as_slice(), text.as_bytes());
+    }
+    Ok(())
+}
+
 // A page that raises is gone, and a join brings the first page back.
 #[test]
 fn overflow(rt: HostRuntime) -> Result<(), Fail> {

@@ -1,3 +1,4 @@
 pub mod Rendered
+pub mod Streams
 pub mod Turned
 pub mod Joined

@@ -8,11 +8,10 @@ use Rattle.value_core.specs.View.{view, assigns_view}
 use Rattle.value_core.specs.declared.raise.Raise.{Raise}
 use Rattle.view_api.specs.Effect.{Effect}
 use Rattle.view_api.specs.Meaning.{HandlerMeaning}
-use Rattle.slot_compile.specs.Template.{values_of}
 use Rattle.diff_tree.specs.declared.part.Part.{Part}
 use Rattle.assigns_track.specs.declared.tracked.Tracked.{Tracked}
 use Rattle.assigns_track.specs.Track.{present_of, settled_of}
-use Rattle.diff_render.specs.Met.{Meets, items_of}
+use Rattle.diff_render.specs.Met.{Meets, items_of, places_of}
 use Rattle.diff_render.specs.Renders.{HasSettled, present, Sends, Renders}
 use Rattle.diff_render.proofs.Items.{met_items}
 use Rattle.diff_render.proofs.Changed.{lookup_seen}
@@ -39,7 +38,7 @@ settles before after same settled n = lookup_seen n after.present ∙ ap (λ es.
 module _ {V : Type 0} (meaning : V → HandlerMeaning) (app : App V) where
   -- a rendering that is met leaves this page
   pub leaves_page : (w : List Waiting) (given : Res Outcome) (json : Items → Data) (v : ℕ) (j : Option (List ℕ)) (t : List ℕ) (before after : Tracked) (rest : Beside) (sent : Part)
-      → given ≡ on_res (outcome_of meaning app v j t (present before) (rest_view w rest)) (items_of (present before) (values_of app.compiled))
+      → given ≡ on_res (outcome_of meaning app v j t (present before) (rest_view w rest)) (items_of (present before) (places_of app.compiled))
       → Sends app.compiled (present before) json sent → CountsFree w rest → after.present ≡ before.present → ((n : List ℕ) → settled_of after n ≡ present_of before n)
       → Leaves app.compiled w given json (record { view = v; assigns = after; join_ref = j; topic = t }) rest sent
   leaves_page w given json v j t before after rest sent is sends free same settled = record {
@@ -56,13 +55,13 @@ module _ {V : Type 0} (meaning : V → HandlerMeaning) (app : App V) where
   }
 
   -- a rendering that raises
-  pub raises_page : (given : Res Outcome) (f : Items → Outcome) (as' : Assigns) (e : Raise) → given ≡ on_res f (items_of as' (values_of app.compiled)) → Meets app.compiled as' (Err e) → IsErr given
+  pub raises_page : (given : Res Outcome) (f : Items → Outcome) (as' : Assigns) (e : Raise) → given ≡ on_res f (items_of as' (places_of app.compiled)) → Meets app.compiled as' (Err e) → IsErr given
   raises_page given f as' e is meets = ap is_err (is ∙ ap (on_res f) (met_items app.compiled as' (Err e) meets))
 
   -- a turn after effects that are applied
   pub turned : (u : LivePage) (p : Page) → StandsFor app.compiled u p → (es : List Effect) (r0 : Rest) (as' : Assigns) (streams : List ℕ → Stream) (r : Rest)
       → apply_effects es (record { assigns = present u.assigns; streams = p.streams }, r0) ≡ Ok (record { assigns = as'; streams = streams }, r)
-      → view_turn (world_of meaning app) p (Some es) r0 ≡ on_res (outcome_of meaning app u.view u.join_ref u.topic as' r) (items_of as' (values_of app.compiled))
+      → view_turn (world_of meaning app) p (Some es) r0 ≡ on_res (outcome_of meaning app u.view u.join_ref u.topic as' r) (items_of as' (places_of app.compiled))
   turned u p stands es r0 as' streams r h =
       ap (λ x. view_turn (world_of meaning app) x (Some es) r0) stands.is
       ∙ turn_is meaning app u.view (present u.assigns) u.join_ref u.topic p.met es r0 as' streams r
@@ -83,6 +82,6 @@ module _ {V : Type 0} (meaning : V → HandlerMeaning) (app : App V) where
 
   -- a turn whose rendering does not succeed
   pub turn_fault : (w : List Waiting) (p : Page) (given : Res Outcome) (u : LivePage) (rest : Beside) (f : Items → Outcome) (as' : Assigns) (json : Items → Data) (fault : RenderFault)
-      → given ≡ on_res f (items_of as' (values_of app.compiled)) → Renders app.compiled as' json (Err fault) → Turns app.compiled w p given u (Err (of_render fault)) rest
+      → given ≡ on_res f (items_of as' (places_of app.compiled)) → Renders app.compiled as' json (Err fault) → Turns app.compiled w p given u (Err (of_render fault)) rest
   turn_fault w p given u rest f as' json render.Raised is (e, meets) = raises_page given f as' e is meets
   turn_fault w p given u rest f as' json render.OutOfMemory is h = tt

@@ -2,7 +2,7 @@
 use Rattle.std.specs.Prelude.{◌≡◌, ℕ, List, [], Option, Result, Ok, Err, IsErr}
 use Rattle.serde_json.specs.Data.{Data}
 use Rattle.value_core.specs.Value.{Assigns}
-use Rattle.slot_compile.specs.declared.compiled.Compiled.{Compiled}
+use Rattle.slot_compile.specs.Template.{Source}
 use Rattle.diff_tree.specs.declared.part.Part.{Part}
 use Rattle.diff_tree.specs.Parts.{part_data}
 use Rattle.diff_render.specs.Met.{Meets}
@@ -34,13 +34,13 @@ page_of v as' j t met = record {
 }
 
 -- what is kept stands for this page, whose last rendering is settled
-pub record StandsFor (c : Compiled) (kept : LivePage) (p : Page) : Type 0 where
+pub record StandsFor (c : Source) (kept : LivePage) (p : Page) : Type 0 where
   pub is : p ≡ page_of kept.view (present kept.assigns) kept.join_ref kept.topic p.met
   pub met : Meets c (present kept.assigns) (Ok p.met)
   pub settled : HasSettled kept.assigns (present kept.assigns)
 
 -- a rendering that is defined left this page and this rest, and what is sent of it has this JSON value
-pub record Leaves (c : Compiled) (w : List Waiting) (given : Res Outcome) (json : Items → Data) (kept : LivePage) (rest : Rest) (sent : Part) : Type 0 where
+pub record Leaves (c : Source) (w : List Waiting) (given : Res Outcome) (json : Items → Data) (kept : LivePage) (rest : Rest) (sent : Part) : Type 0 where
   pub outcome : Outcome
   pub given_is : given ≡ Ok outcome
   pub stands : StandsFor c kept outcome.page
@@ -49,13 +49,13 @@ pub record Leaves (c : Compiled) (w : List Waiting) (given : Res Outcome) (json 
   pub sends : part_data sent ≡ json outcome.page.met
 
 -- what a join answers: a page and its whole tree, or a raise where the join raises; want of memory is free
-abbrev pub Joins : Compiled → List Waiting → Res Outcome → Result (LivePage × Part) PageFault → Rest → Type 0
+abbrev pub Joins : Source → List Waiting → Res Outcome → Result (LivePage × Part) PageFault → Rest → Type 0
 Joins c w given (Ok p) rest = Leaves c w given (whole_json c) p.0 rest p.1
 Joins c w given (Err fault.Raised) rest = IsErr given
 Joins c w given (Err fault.OutOfMemory) rest = Unit {0}
 
 -- what a turn on a page answers: the lean diff, or a raise where the turn raises; want of memory is free
-abbrev pub Turns : Compiled → List Waiting → Page → Res Outcome → LivePage → Result Part PageFault → Rest → Type 0
+abbrev pub Turns : Source → List Waiting → Page → Res Outcome → LivePage → Result Part PageFault → Rest → Type 0
 Turns c w p given kept (Ok sent) rest = Leaves c w given (lean_json p.met) kept rest sent
 Turns c w p given kept (Err fault.Raised) rest = IsErr given
 Turns c w p given kept (Err fault.OutOfMemory) rest = Unit {0}

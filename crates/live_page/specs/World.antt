@@ -12,7 +12,7 @@ use Rattle.doc_model.specs.Scopes.{Site}
 use Rattle.doc_model.specs.Bundle.{site_of}
 use Rattle.doc_model.specs.Process.{World, Route}
 use Rattle.live_page.specs.declared.app.App.{App}
-use Rattle.live_page.specs.declared.app.Destination.{Destination}
+use Rattle.live_page.specs.declared.destination.Destination.{Destination}
 
 -- entries over others: those of the first hold
 abbrev pub put_over : Assigns → Assigns → Assigns

@@ -2,11 +2,13 @@
 #![tactic(auto)]
 
 mod app;
+mod destination;
 mod fault;
 mod page;
 #[cfg(test)]
 mod tests;
 
-pub use app::{App, Destination};
+pub use app::App;
+pub use destination::Destination;
 pub use fault::PageFault;
 pub use page::LivePage;

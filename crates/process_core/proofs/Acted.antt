@@ -3,7 +3,7 @@ use Rattle.std.proofs.Common.{◌≡◌, ℕ, List, Option, Some, None, Result, 
 use Rattle.std.proofs.lemmas.Result.{IfOk-weaker}
 use Rattle.text_core.specs.declared.memory.OutOfMemory.{OutOfMemory}
 use Rattle.view_api.specs.Meaning.{HandlerMeaning}
-use Rattle.slot_compile.specs.declared.compiled.Compiled.{Compiled}
+use Rattle.slot_compile.specs.Template.{Source}
 use Rattle.wire_v2.specs.View.{message_view}
 use Rattle.wire_v2.specs.declared.message.Message.{Message}
 use Rattle.wire_v2.specs.Message as model
@@ -18,10 +18,10 @@ use Rattle.process_core.specs.declared.process.Process.{Process}
 use Rattle.process_core.specs.Answers.{AnswersStep}
 
 -- an answer in every template and with every room is one in this template with this room
-pub for_any : (before after : Process) (step : ProcessState → List Waiting → Stepped) (template : Compiled) (free : ℕ) (r : Result Outcome OutOfMemory)
-    → IfOk r (λ o. (template : Compiled) (free : ℕ) → AnswersStep template before free step after o) → IfOk r (λ o. AnswersStep template before free step after o)
+pub for_any : (before after : Process) (step : ProcessState → List Waiting → Stepped) (template : Source) (free : ℕ) (r : Result Outcome OutOfMemory)
+    → IfOk r (λ o. (template : Source) (free : ℕ) → AnswersStep template before free step after o) → IfOk r (λ o. AnswersStep template before free step after o)
 for_any before after step template free r h =
-    IfOk-weaker r (λ o. (template : Compiled) (free : ℕ) → AnswersStep template before free step after o) (λ o. AnswersStep template before free step after o) (λ o any. any template free) h
+    IfOk-weaker r (λ o. (template : Source) (free : ℕ) → AnswersStep template before free step after o) (λ o. AnswersStep template before free step after o) (λ o any. any template free) h
 
 module _ {V : Type 0} (meaning : V → HandlerMeaning) (app : App V) (before after : Process) (free : ℕ) where
   -- the answer to a message, by what the message is
@@ -40,10 +40,10 @@ module _ {V : Type 0} (meaning : V → HandlerMeaning) (app : App V) (before aft
 
   -- the answer to an event of a component that is gone
   pub for_absent : (h : model.MessageHead) (name : List ℕ) (v : model.EventValue) (n : ℕ) (r : Result Outcome OutOfMemory)
-      → IfOk r (λ o. (world : World) (template : Compiled) (free : ℕ) (name : List ℕ) (v : Value) (n : ℕ) → AnswersStep template before free (λ s w. if_fresh s w h (λ p. step_event world s p w h name v (Some n))) after o)
+      → IfOk r (λ o. (world : World) (template : Source) (free : ℕ) (name : List ℕ) (v : Value) (n : ℕ) → AnswersStep template before free (λ s w. if_fresh s w h (λ p. step_event world s p w h name v (Some n))) after o)
       → IfOk r (λ o. AnswersStep app.compiled before free (λ s w. step_message (world_of meaning app) s w (model.event h name v (Some n))) after o)
   for_absent h name v n r given =
-      IfOk-weaker r (λ o. (world : World) (template : Compiled) (free : ℕ) (name : List ℕ) (v : Value) (n : ℕ) → AnswersStep template before free (λ s w. if_fresh s w h (λ p. step_event world s p w h name v (Some n))) after o)
+      IfOk-weaker r (λ o. (world : World) (template : Source) (free : ℕ) (name : List ℕ) (v : Value) (n : ℕ) → AnswersStep template before free (λ s w. if_fresh s w h (λ p. step_event world s p w h name v (Some n))) after o)
       (λ o. AnswersStep app.compiled before free (λ s w. step_message (world_of meaning app) s w (model.event h name v (Some n))) after o)
       (λ o any. any (world_of meaning app) app.compiled free name (value_of (world_of meaning app) v) n)
       given

@@ -5,8 +5,7 @@ use Rattle.value_core.specs.View.{view}
 use Rattle.value_core.specs.declared.value.Value.{Value as Stored}
 use Rattle.view_api.specs.Meaning.{HandlerMeaning}
 use Rattle.ast_core.specs.Places.{cut}
-use Rattle.slot_compile.specs.declared.compiled.Compiled.{Compiled}
-use Rattle.slot_compile.specs.Template.{syntax_of}
+use Rattle.slot_compile.specs.Template.{Source, syntax_of}
 use Rattle.diff_tree.specs.Client.{PageTree}
 use Rattle.diff_tree.specs.Frame.{rendered}
 use Rattle.diff_tree.specs.Spelling.{Pushed}
@@ -72,7 +71,7 @@ joined_of world r j j' t t' x x' j_is t_is x_is =
     ap (λ k. joined_page world r k t x) j_is ∙ ap (λ u. joined_page world r j' u x) t_is ∙ ap (λ y. joined_page world r j' t' y) x_is
 
 -- a first page that does not come up
-pub begins_fault : (template : Compiled) (w : List Waiting) (given : Res Given) (f : PageFault) (rest : Beside) → Joins template w given (Err f) rest → Begins template w given (Err f)
+pub begins_fault : (template : Source) (w : List Waiting) (given : Res Given) (f : PageFault) (rest : Beside) → Joins template w given (Err f) rest → Begins template w given (Err f)
 begins_fault template w given fault.Raised rest h = h
 begins_fault template w given fault.OutOfMemory rest h = h
 

@@ -3,7 +3,7 @@ use Rattle.std.proofs.Common.{◌≡◌, ℕ, List, [], ◌∷◌, ◌++◌, map
 use Rattle.std.proofs.lemmas.List.{append-nil}
 use Rattle.value_core.specs.View.{view}
 use Rattle.value_core.specs.declared.value.Value.{Value as Stored}
-use Rattle.slot_compile.specs.declared.compiled.Compiled.{Compiled}
+use Rattle.slot_compile.specs.Template.{Source}
 use Rattle.diff_tree.specs.Frame.{faulted}
 use Rattle.effects_apply.specs.Applied.{action_view}
 use Rattle.doc_model.specs.Effects.{Waiting, sent}
@@ -25,7 +25,7 @@ abbrev at_option : (ProcessState → List Waiting → Page → Stepped) → Proc
 at_option step s w q = elim q [ None ↦ unchanged s w [] | Some p ↦ step s w p ]
 
 -- where nothing is up
-pub lift_down : (template : Compiled) (before after : Process) (free : ℕ) (step : ProcessState → List Waiting → Page → Stepped) (o : Outcome) → before.up ≡ None → after ≡ before
+pub lift_down : (template : Source) (before after : Process) (free : ℕ) (step : ProcessState → List Waiting → Page → Stepped) (o : Outcome) → before.up ≡ None → after ≡ before
     → o ≡ record { frames = []; sent = []; actions = []; crashed = false } → AnswersStep template before free (at_page step) after o
 lift_down template before after free step o down same is s w keeps fits =
     by s.page refl (subst (λ u. UpStands template u s.page) down keeps.up)
@@ -41,7 +41,7 @@ lift_down template before after free step o down same is s w keeps fits =
     by (Some p) some up = absurd up
 
 -- what stays up
-still : (template : Compiled) (u : Up) (page : LivePage) (p : Page) (q : Option Page) (crashed : Bool) (up : Option Up) → UpFor template u p → StaysUp template page p q crashed
+still : (template : Source) (u : Up) (page : LivePage) (p : Page) (q : Option Page) (crashed : Bool) (up : Option Up) → UpFor template u p → StaysUp template page p q crashed
     → up ≡ (if crashed then None else Some (record { page = page; last_words = u.last_words })) → UpStands template up q
 still template u page p None crashed up was fell is =
     subst (λ x. UpStands template x None) (sym (is ∙ ap (λ b. if b then None else Some (record { page = page; last_words = u.last_words })) fell)) tt
@@ -54,7 +54,7 @@ still template u page p (Some q) crashed up was stays is =
     })
 
 -- where a page is up
-pub lift_up : (template : Compiled) (before after : Process) (u : Up) (page : LivePage) (free : ℕ) (step : ProcessState → List Waiting → Page → Stepped) (o : Outcome) → before.up ≡ Some u
+pub lift_up : (template : Source) (before after : Process) (u : Up) (page : LivePage) (free : ℕ) (step : ProcessState → List Waiting → Page → Stepped) (o : Outcome) → before.up ≡ Some u
     → after.generation ≡ before.generation → after.up ≡ (if o.crashed then None else Some (record { page = page; last_words = u.last_words }))
     → AnswersPage template u.page before.generation free step page o → AnswersStep template before free (at_page step) after o
 lift_up template before after u page free step o is_up generation up_after answers s w keeps fits =

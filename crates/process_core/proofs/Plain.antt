@@ -1,16 +1,13 @@
--- What is sent of a page of interpolations: no component is met, and an empty diff is an object without members.
+-- What is sent of a page whose places have nothing inside: no component is met, and an empty diff is an object without members.
 use Rattle.std.proofs.Common.{◌≡◌, ℕ, suc, List, [], ◌∷◌, map, Option, Some, None, IsTrue, ◌↔◌, true≢false, codes, Ok, Err, Bool, true, false, ◌&&◌, Ordering, Less, Equal, Greater, nat_cmp, refl, sym, ap, ◌∙◌, subst}
 use Rattle.std.specs.Ordering.{match_ordering}
 use Rattle.std.specs.Cmp.Lexicographic.{slice_cmp}
 use Rattle.std.specs.Fmt.{decimal}
 use Rattle.serde_json.specs.Data.{Data, array, object, Members, no_members, member, put}
 use Rattle.text_core.specs.declared.by_key.KeyValue.{KeyValue}
-use Rattle.text_core.specs.Escape.{escape_text}
 use Rattle.value_core.specs.Value.{Value, Assigns}
-use Rattle.ast_core.specs.Syntax.{Expr}
-use Rattle.ast_core.specs.Free.{free_names}
-use Rattle.slot_compile.specs.declared.compiled.Compiled.{Compiled}
-use Rattle.slot_compile.specs.Template.{values_of}
+use Rattle.ast_core.specs.Syntax.{Place}
+use Rattle.slot_compile.specs.Template.{Source}
 use Rattle.diff_tree.specs.Container.{is_none}
 use Rattle.diff_tree.specs.Client.{PageDiff}
 use Rattle.diff_tree.specs.Tree.{Changes, no_changes, skip, change}
@@ -22,13 +19,12 @@ use Rattle.diff_tree.specs.declared.part.PlaceValue.TheFolds.{fold_out-Part}
 use Rattle.wire_v2.specs.FrameGrammar.{is_empty_object}
 use Rattle.wire_v2.specs.FrameData.{pushed_of}
 use Rattle.wire_v2.specs.declared.push.Push.{Push}
-use Rattle.doc_model.specs.Environment.{reading}
-use Rattle.doc_model.specs.Evaluation.{Res, then_do, both, on_res, eval_expr, printed}
+use Rattle.doc_model.specs.Evaluation.{Res, both, on_res}
 use Rattle.doc_model.specs.Lean.{is_empty}
 use Rattle.doc_model.specs.Trace.{Items, item, met_text}
 use Rattle.doc_model.specs.Components.{parts, lean_parts, lean_diff}
 use Rattle.doc_model.specs.Process.{no_difference}
-use Rattle.diff_render.specs.Met.{Meets, scope_of, items_of}
+use Rattle.diff_render.specs.Met.{Meets, shown_at, read_at, items_of, places_of as template_places}
 use Rattle.diff_render.proofs.Items.{met_items}
 
 -- no component is met
@@ -36,21 +32,21 @@ abbrev Plainly : Res Items → Type 0
 Plainly (Ok is) = parts is ≡ []
 Plainly (Err e) = Unit {0}
 
-one_more : (r : Res (List ℕ)) (v : List (Option Value)) (q : Res Items) → Plainly q → Plainly (both item (on_res (λ t. met_text v (escape_text t)) r) q)
+one_more : (r : Res (List ℕ)) (v : List (Option Value)) (q : Res Items) → Plainly q → Plainly (both item (on_res (met_text v) r) q)
 one_more (Ok t) v (Ok is) h = h
 one_more (Ok t) v (Err e) h = tt
 one_more (Err e) v q h = tt
 
-all_plain : (as' : Assigns) (es : List Expr) → Plainly (items_of as' es)
+all_plain : (as' : Assigns) (ps : List Place) → Plainly (items_of as' ps)
 all_plain as' [] = refl
-all_plain as' (e ∷ es) = one_more (then_do (eval_expr (scope_of as') e) printed) (reading (scope_of as') (free_names e)) (items_of as' es) (all_plain as' es)
+all_plain as' (p ∷ ps) = one_more (shown_at as' p) (read_at as' p) (items_of as' ps) (all_plain as' ps)
 
--- a page of texts meets no component
-pub no_parts : (template : Compiled) (as' : Assigns) (is : Items) → Meets template as' (Ok is) → parts is ≡ []
-no_parts template as' is h = subst Plainly (met_items template as' (Ok is) h) (all_plain as' (values_of template))
+-- such a page meets no component
+pub no_parts : (template : Source) (as' : Assigns) (is : Items) → Meets template as' (Ok is) → parts is ≡ []
+no_parts template as' is h = subst Plainly (met_items template as' (Ok is) h) (all_plain as' (template_places template))
 
 -- and its diff has none
-pub plain_diff : (template : Compiled) (as' : Assigns) (old is : Items) → Meets template as' (Ok is) → (lean_diff old is).components ≡ []
+pub plain_diff : (template : Source) (as' : Assigns) (old is : Items) → Meets template as' (Ok is) → (lean_diff old is).components ≡ []
 plain_diff template as' old is h = ap (lean_parts (parts old)) (no_parts template as' is h)
 
 -- a member that was put is there

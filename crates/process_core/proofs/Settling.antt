@@ -6,7 +6,7 @@ use Rattle.value_core.specs.View.{view}
 use Rattle.value_core.specs.declared.value.Value.{Value as Stored}
 use Rattle.view_api.specs.Effect.{Effect}
 use Rattle.view_api.specs.Meaning.{HandlerMeaning}
-use Rattle.slot_compile.specs.declared.compiled.Compiled.{Compiled}
+use Rattle.slot_compile.specs.Template.{Source}
 use Rattle.diff_tree.specs.declared.part.Part.{Part}
 use Rattle.diff_tree.specs.Client.{PageDiff}
 use Rattle.diff_tree.specs.Frame.{Frame, faulted}
@@ -61,7 +61,7 @@ begun_counts : (w : List Waiting) (g free : ℕ) (r : Beside) → Begun g free r
 begun_counts w g free r b fits = ap (λ (x : Rest). length x.inbox + r.free) (begun_view w g free r b) ∙ ap (λ n. length w + n) b.free ∙ fits
 
 -- nothing but frames, and what is up stays up
-pub stays : (template : Compiled) (g : ℕ) (s : ProcessState) (w : List Waiting) (p : Page) (u : LivePage) (fs : List Frame) (o : Given) → s.generation ≡ g → s.page ≡ Some p → StandsFor template u p
+pub stays : (template : Source) (g : ℕ) (s : ProcessState) (w : List Waiting) (p : Page) (u : LivePage) (fs : List Frame) (o : Given) → s.generation ≡ g → s.page ≡ Some p → StandsFor template u p
     → o.frames ≡ spelled fs → o.sent ≡ [] → o.actions ≡ [] → o.crashed ≡ false → PageAnswers template g w p (unchanged s w fs) u o
 stays template g s w p u fs o generation page stands frames none_sent no_actions not_crashed = record {
   generation = generation;
@@ -73,17 +73,17 @@ stays template g s w p u fs o generation page stands frames none_sent no_actions
 }
 
 -- the same with no frame
-pub quiet : (template : Compiled) (g : ℕ) (s : ProcessState) (w : List Waiting) (p : Page) (u : LivePage) (o : Given) → s.generation ≡ g → s.page ≡ Some p → StandsFor template u p
+pub quiet : (template : Source) (g : ℕ) (s : ProcessState) (w : List Waiting) (p : Page) (u : LivePage) (o : Given) → s.generation ≡ g → s.page ≡ Some p → StandsFor template u p
     → o ≡ record { frames = []; sent = []; actions = []; crashed = false } → PageAnswers template g w p (unchanged s w []) u o
 quiet template g s w p u o generation page stands is =
     stays template g s w p u [] o generation page stands (ap (λ (x : Given). x.frames) is) (ap (λ (x : Given). x.sent) is) (ap (λ (x : Given). x.actions) is) (ap (λ (x : Given). x.crashed) is)
 
 -- whether a message is of the page's join is seen from what is kept
-pub fresh_is : (template : Compiled) (u : LivePage) (p : Page) (h : MessageHead) (b : Bool) → StandsFor template u p → b ≡ (same_reference h.join_reference u.join_ref && bytes_eq h.topic u.topic) → is_of p h ≡ b
+pub fresh_is : (template : Source) (u : LivePage) (p : Page) (h : MessageHead) (b : Bool) → StandsFor template u p → b ≡ (same_reference h.join_reference u.join_ref && bytes_eq h.topic u.topic) → is_of p h ≡ b
 fresh_is template u p h b stands is = ap (λ (x : Page). is_of x h) stands.is ∙ sym is
 
 module _ {V : Type 0} (meaning : V → HandlerMeaning) (app : App V) where
-  abbrev template : Compiled
+  abbrev template : Source
   template = app.compiled
 
   abbrev given : Page → Option (List Effect) → Rest → Res Outcome

@@ -6,9 +6,8 @@ use Rattle.value_core.specs.Value.{Value, Assigns, no_assigns}
 use Rattle.value_core.specs.declared.raise.Raise.TheVariants.{BadArgument, InboxFull}
 use Rattle.view_api.specs.Effect.{Effect, assign_to, stream_insert, stream_delete, stream_reset, subscribe, unsubscribe, publish, send_self, push_event}
 use Rattle.view_api.specs.Meaning.{HandlerMeaning}
-use Rattle.slot_compile.specs.Template.{values_of}
 use Rattle.diff_tree.specs.Container.{Position, Limit}
-use Rattle.diff_render.specs.Met.{items_of}
+use Rattle.diff_render.specs.Met.{items_of, places_of}
 use Rattle.doc_model.specs.Evaluation.{Res, then_do, on_res}
 use Rattle.doc_model.specs.Trace.{Items}
 use Rattle.doc_model.specs.Effects.{to_publish, sent, Rest, inbox_limit, storable, sendable, position_of, limit_of, batch_insert, in_stream, Applied, acting, send_value, is_kept_name, assigned, insert_of, apply_effect, apply_effects, applied_or_raise, empty_stream}
@@ -86,7 +85,7 @@ module _ {V : Type 0} (meaning : V → HandlerMeaning) (app : App V) where
 
   pub rendered_stays : (g v : ℕ) (j : Option (List ℕ)) (t : List ℕ) (q : Applied) → q.1.generation ≡ g → StaysOn g (rendered_page (world_of meaning app) v j t (turning_view [] 1 q))
   rendered_stays g v j t q h =
-      subst (StaysOn g) (sym (rendered_is meaning app v j t q.0.assigns q.0.streams q.1)) (outcome_stays g v j t q.0.assigns q.1 h (items_of q.0.assigns (values_of app.compiled)))
+      subst (StaysOn g) (sym (rendered_is meaning app v j t q.0.assigns q.0.streams q.1)) (outcome_stays g v j t q.0.assigns q.1 h (items_of q.0.assigns (places_of app.compiled)))
 
   shown_stays : (g v : ℕ) (j : Option (List ℕ)) (t : List ℕ) (r : Res Applied) → StaysIn g r → StaysOn g (then_do r (λ q. rendered_page (world_of meaning app) v j t (turning_view [] 1 q)))
   shown_stays g v j t (Ok q) h = rendered_stays g v j t q h

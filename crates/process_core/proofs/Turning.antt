@@ -1,4 +1,4 @@
--- What a turn of a page of texts leaves of it, and of the process beside it.
+-- What a turn of a page whose places have nothing inside leaves of it, and of the process beside it.
 use Rattle.std.proofs.Common.{◌≡◌, ℕ, List, [], ◌∷◌, ◌++◌, length, Option, Some, None, Ok, Err, Bool, true, false, refl, sym, ap, ◌∙◌, subst, nat_lt, if◌then◌else◌}
 use Rattle.serde_json.specs.Data.{Data}
 use Rattle.serde_json.specs.Written.{compact_text}
@@ -6,8 +6,7 @@ use Rattle.value_core.specs.Value.{Value, Assigns}
 use Rattle.value_core.specs.declared.raise.Raise.TheVariants.{BadArgument, InboxFull}
 use Rattle.view_api.specs.Effect.{Effect, assign_to, stream_insert, stream_delete, stream_reset, subscribe, unsubscribe, publish, send_self, push_event}
 use Rattle.view_api.specs.Meaning.{HandlerMeaning}
-use Rattle.slot_compile.specs.Template.{values_of}
-use Rattle.diff_render.specs.Met.{items_of}
+use Rattle.diff_render.specs.Met.{items_of, places_of}
 use Rattle.diff_render.specs.Renders.{present}
 use Rattle.diff_tree.specs.Container.{Position, Limit}
 use Rattle.doc_model.specs.Evaluation.{Res, then_do, on_res}
@@ -97,8 +96,8 @@ module _ {V : Type 0} (meaning : V → HandlerMeaning) (app : App V) where
       by : (q : Res Applied) → apply_effects es start ≡ q → Under r0.generation q → Keeping u.join_ref u.topic r0.generation (view_turn (world_of meaning app) p (Some es) r0)
       by (Ok a) is under =
           subst (Keeping u.join_ref u.topic r0.generation) (sym (turned meaning app u p stands es r0 a.0.assigns a.0.streams a.1 is))
-          (subst (λ g. Keeping u.join_ref u.topic g (on_res (outcome_of meaning app u.view u.join_ref u.topic a.0.assigns a.1) (items_of a.0.assigns (values_of app.compiled)))) under
-          (shown u.view u.join_ref u.topic a.0.assigns a.1 (items_of a.0.assigns (values_of app.compiled))))
+          (subst (λ g. Keeping u.join_ref u.topic g (on_res (outcome_of meaning app u.view u.join_ref u.topic a.0.assigns a.1) (items_of a.0.assigns (places_of app.compiled)))) under
+          (shown u.view u.join_ref u.topic a.0.assigns a.1 (items_of a.0.assigns (places_of app.compiled))))
       by (Err e) is under =
           subst (Keeping u.join_ref u.topic r0.generation)
           (sym (ap (λ as'. then_do (apply_effects es (record { assigns = as'; streams = p.streams }, r0)) (λ a. rendered_page (world_of meaning app) p.view p.join_reference p.topic (turning_view p.components p.next a))) assigns_are

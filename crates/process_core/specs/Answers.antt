@@ -1,7 +1,7 @@
 -- What a message made of a process.
 use Rattle.std.specs.Prelude.{◌≡◌, ℕ, ◌+◌, List, [], ◌++◌, length, map, Some, None}
 use Rattle.value_core.specs.View.{view}
-use Rattle.slot_compile.specs.declared.compiled.Compiled.{Compiled}
+use Rattle.slot_compile.specs.Template.{Source}
 use Rattle.effects_apply.specs.Applied.{action_view}
 use Rattle.doc_model.specs.Effects.{Waiting, sent, inbox_limit}
 use Rattle.doc_model.specs.Process.{ProcessState, Stepped}
@@ -11,7 +11,7 @@ use Rattle.process_core.specs.declared.outcome.Outcome.{Outcome}
 use Rattle.process_core.specs.Kept.{Keeps}
 
 -- the step of the definitions, with the state kept after it and the outcome, where `w` waited
-pub record Answers (template : Compiled) (w : List Waiting) (t : Stepped) (kept : Process) (o : Outcome) : Type 0 where
+pub record Answers (template : Source) (w : List Waiting) (t : Stepped) (kept : Process) (o : Outcome) : Type 0 where
   pub keeps : Keeps template kept t.state
   pub waits : t.inbox ≡ w ++ map (λ v. sent kept.generation (view v)) o.sent
   pub frames : o.frames ≡ spelled t.frames
@@ -23,7 +23,7 @@ abbrev pub Fits : List Waiting → ℕ → Type 0
 Fits w free = length w + free ≡ inbox_limit
 
 -- the answer to a step, from every state that is kept so and every inbox with that room
-abbrev pub AnswersStep : Compiled → Process → ℕ → (ProcessState → List Waiting → Stepped) → Process → Outcome → Type 0
+abbrev pub AnswersStep : Source → Process → ℕ → (ProcessState → List Waiting → Stepped) → Process → Outcome → Type 0
 AnswersStep template before free step after o = (s : ProcessState) (w : List Waiting) → Keeps template before s → Fits w free → Answers template w (step s w) after o
 
 -- the last words of what is up

@@ -2,7 +2,7 @@
 ghost use Rattle.std.specs.Prelude.{◌≡◌, ◌<◌, ◌≤◌, ◌+◌, [], ◌∷◌, ℕ, List, None, IfOk, OnErr, codes};
 ghost use Rattle.value_core.specs.View.{view};
 ghost use Rattle.diff_tree.specs.Frame as frame;
-ghost use Rattle.slot_compile.specs.declared.compiled.Compiled.{Compiled};
+ghost use Rattle.slot_compile.specs.Template.{Source};
 ghost use Rattle.wire_v2.specs.Message as model;
 ghost use Rattle.wire_v2.specs.Message.{message_of};
 ghost use Rattle.wire_v2.specs.View.{event_value_view, head_view, message_view};
@@ -77,7 +77,7 @@ fn act<V: Views>(
 
 // A sign of life.
 fn beat(alloc: Global, process: &Process, head: MessageHead) -> Result<Outcome, OutOfMemory>
-    ensures { IfOk result (λ o. (template : Compiled) (free : ℕ) → AnswersStep template process.now free (λ s w. unchanged s w (frame_of None head.reference (codes "phoenix") frame.empty ∷ [])) process.now o) }
+    ensures { IfOk result (λ o. (template : Source) (free : ℕ) → AnswersStep template process.now free (λ s w. unchanged s w (frame_of None head.reference (codes "phoenix") frame.empty ∷ [])) process.now o) }
 {
     let frames = heartbeat(alloc, &head)?;
     Ok(only(alloc, frames, false))

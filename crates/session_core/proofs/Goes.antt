@@ -3,13 +3,12 @@ use Rattle.std.proofs.Common.{◌≡◌, ℕ, ◌+◌, ◌<◌, ◌≤◌, min, 
 use Rattle.std.proofs.lemmas.List.{map-append, length-map, length-append}
 use Rattle.value_core.specs.View.{view}
 use Rattle.value_core.specs.declared.value.Value.{Value}
-use Rattle.ast_core.specs.Places.{streams_in, Once}
-use Rattle.slot_compile.specs.declared.compiled.Compiled.{Compiled}
-use Rattle.slot_compile.specs.declared.compiled.Interpolation.{Interpolation}
-use Rattle.slot_compile.specs.Template.{syntax_from}
+use Rattle.ast_core.specs.Places.{Once}
+use Rattle.slot_compile.specs.Template.{Source, syntax_of}
 use Rattle.view_api.specs.Meaning.{HandlerMeaning}
 use Rattle.live_page.specs.declared.app.App.{App}
 use Rattle.live_page.specs.World.{world_of}
+use Rattle.live_page.proofs.Streams.{no_streams}
 use Rattle.process_core.specs.declared.process.Process.{Process}
 use Rattle.process_core.specs.declared.process.Up.{Up}
 use Rattle.process_core.specs.declared.outcome.Outcome.{Outcome}
@@ -40,11 +39,6 @@ pub record Stands {V : Type 0} (meaning : V → HandlerMeaning) (app : App V) (e
   pub inbox_is : (standing_of meaning (machine app es)).inbox ≡ inbox_view inbox
   pub size : kept ≡ min (kept_size (machine app es)) 18446744073709551615
 
--- a template of texts and interpolations has no stream
-no_streams : (is : List Interpolation) (t : List ℕ) → streams_in (syntax_from is t) ≡ []
-no_streams [] t = refl
-no_streams (i ∷ is) t = no_streams is t
-
 size_more : (xs : List journal.Entry) (e : journal.Entry) → journal_size (xs ++ e ∷ []) ≡ journal_size xs + entry_size e
 size_more [] e = omega arith
 size_more (x ∷ xs) e = let h : journal_size (xs ++ e ∷ []) ≡ journal_size xs + entry_size e = size_more xs e in omega (arith, h)
@@ -54,7 +48,7 @@ views_sent g [] = refl
 views_sent g (v ∷ vs) = ap (λ ws. model.sent g (view v) ∷ ws) (views_sent g vs)
 
 -- the last words of what is up
-words_are : (template : Compiled) (g : ℕ) (u : Option Up) (page : Option Page) → UpStands template u page → words_of (record { generation = g; up = u }) ≡ spelled (fault_frames page (Some (codes "out of memory")))
+words_are : (template : Source) (g : ℕ) (u : Option Up) (page : Option Page) → UpStands template u page → words_of (record { generation = g; up = u }) ≡ spelled (fault_frames page (Some (codes "out of memory")))
 words_are template g None None h = refl
 words_are template g None (Some p) h = absurd h
 words_are template g (Some u) None h = absurd h
@@ -78,7 +72,7 @@ module _ {V : Type 0} (meaning : V → HandlerMeaning) (app : App V) where
   standing es = standing_of meaning (machine app es)
 
   pub linked : IsLinked (world_of meaning app)
-  linked = record { of_view = λ v. subst Once (sym (no_streams app.compiled.interpolations app.compiled.last)) tt; of_module = λ m. tt }
+  linked = record { of_view = λ v. subst Once (sym (no_streams (syntax_of app.compiled) app.flat)) tt; of_module = λ m. tt }
 
   abbrev more_view : (es : List (ℕ × Entry)) (by : ℕ) (e : Entry) → journal_view (es ++ (by, e) ∷ []) ≡ journal_view es ++ entry_view e ∷ []
   more_view es by e = map-append (λ x. entry_view x.1) es ((by, e) ∷ [])

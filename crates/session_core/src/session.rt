@@ -39,7 +39,7 @@ pub struct Session<V: Views> {
 
 impl<V: Views> Model for Session<V> {
     ghost use Rattle.std.specs.Coded.{codes};
-    ghost use Rattle.ast_core.specs.contracts.expr.Expr as row;
+    ghost use Rattle.ast_core.specs.contracts.node.Node as row;
     ghost use Rattle.session_core.specs.Machine.{Machine};
     ghost use Rattle.session_core.specs.Keeps.{machine_of, KeepsAll};
 

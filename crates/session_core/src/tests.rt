@@ -1,26 +1,43 @@
 //! A page that greets: it is joined, and its frame is read.
 use crate::Session;
-use ast_core::Expr;
+use ast_core::{Expr, Location, Node, Nodes, Place};
 use live_page::App;
 use machine_api::Handled;
 use route_table::Routes;
-use slot_compile::{Compiled, Formula};
+use slot_compile::{Compiled, compile};
 use std::alloc::Global;
 use std::sync::Arc;
 use std::test::Fail;
 use text_core::{Frames, OutOfMemory, Seq, Text};
 use view_api::Greeting;
 
-// `{@greeting}` at `/`.
-fn greeting_app(alloc: Global) -> Result<Option<App<Greeting>>, OutOfMemory> {
-    let mut compiled = Compiled::new(alloc);
-    let greeting = Expr::Assign(Text::copy_of(alloc, "greeting")?);
-    compiled.push_value(alloc, Formula::of(alloc, greeting)?)?;
+// `Greeting: {@greeting}`
+fn template(alloc: Global) -> Result<Nodes, OutOfMemory> {
+    let at = Location {
+        line: 1,
+        column: 11,
+    };
+    let place = Place::Put(Expr::Assign(Text::copy_of(alloc, "greeting")?));
+    let mut nodes = Seq::new(alloc);
+    nodes.push(Node::Text(Text::copy_of(alloc, "Greeting: ")?))?;
+    nodes.push(Node::Place { at, place })?;
+    Ok(nodes)
+}
+
+// The app of a template at `/`.
+fn app_of(alloc: Global, compiled: Compiled) -> Result<Option<App<Greeting>>, OutOfMemory> {
     let mut paths = Seq::new(alloc);
     paths.push(Text::copy_of(alloc, "/")?)?;
     match Routes::build(alloc, &paths) {
         Ok(routes) => Ok(Some(App::build(compiled, routes, Greeting))),
         Err(_) => Ok(None),
+    }
+}
+
+fn greeting_app(alloc: Global) -> Result<Option<App<Greeting>>, OutOfMemory> {
+    match compile(alloc, template(alloc)?)? {
+        Some(compiled) => app_of(alloc, compiled),
+        None => Ok(None),
     }
 }
 

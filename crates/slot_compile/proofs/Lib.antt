@@ -1,1 +1,3 @@
-pub mod Syntax
+pub mod Flats
+pub mod Joined
+pub mod StretchParts

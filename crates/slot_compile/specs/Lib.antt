@@ -1,1 +1,3 @@
+pub mod Gathering
+pub mod Stretches
 pub mod Template

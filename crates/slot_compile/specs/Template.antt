@@ -1,39 +1,42 @@
--- The statics and the places of a template of texts and interpolations.
-use Rattle.std.specs.Prelude.{◌≡◌, ℕ, List, [], ◌∷◌, ◌++◌, map}
-use Rattle.ast_core.specs.declared.expr.Expr.{Expr}
+-- What is compiled: templates of texts, elements, attributes, spreads and interpolations.
+use Rattle.std.specs.Prelude.{◌≡◌, List, Bool, true, false, Option, Some, None, if◌then◌else◌}
+use Rattle.std.specs.List.{list_all}
+use Rattle.ast_core.specs.declared.node.Node.{Node}
 use Rattle.ast_core.specs.ExprView.{expr_view}
-use Rattle.ast_core.specs.Syntax as model
-use Rattle.ast_core.specs.Syntax.{Place, put, Nodes, no_nodes, node, text_node, at_place}
-use Rattle.ast_core.specs.Places.{places_in, cut}
-use Rattle.slot_compile.specs.declared.compiled.Interpolation.{Interpolation}
-use Rattle.slot_compile.specs.declared.compiled.Compiled.{Compiled}
+use Rattle.ast_core.specs.NodeView.{nodes_view}
+use Rattle.ast_core.specs.Places.{places_in}
+use Rattle.ast_core.specs.Syntax.{Place, put, attribute, spread, Nodes}
+use Rattle.slot_compile.specs.declared.compiled.Dynamic.{Dynamic}
+use Rattle.slot_compile.specs.declared.compiled.Dynamic.TheVariants.{Put, Attribute, Spread}
 
--- the empty template, and one with more at its end
-abbrev pub beginning : Compiled
-beginning = record { interpolations = []; last = [] }
+-- a template as it was read: what contracts see of a compiled one
+abbrev pub Source : Type 0
+Source = List Node
 
-abbrev pub with_text : List ℕ → Compiled → Compiled
-with_text t c = record c { last = c.last ++ t }
+-- its syntax
+abbrev pub syntax_of : Source → Nodes
+syntax_of source = nodes_view source
 
-abbrev pub with_value : Expr → Compiled → Compiled
-with_value e c = record { interpolations = c.interpolations ++ record { before = c.last; value = e } ∷ []; last = [] }
+-- a place that has nothing inside: an interpolation, an attribute or a spread
+abbrev pub is_flat : Place → Bool
+is_flat (put e) = true
+is_flat (attribute n e) = true
+is_flat (spread e) = true
+is_flat p = false
 
--- the constant texts: one more than there are values
-abbrev pub statics_of : Compiled → List (List ℕ)
-statics_of c = map (λ i. i.before) c.interpolations ++ c.last ∷ []
+-- all places of a template are of these kinds
+abbrev pub all_flat : Nodes → Bool
+all_flat ns = list_all is_flat (places_in ns)
 
--- what is interpolated, in document order
-abbrev pub values_of : Compiled → List model.Expr
-values_of c = map (λ i. expr_view i.value) c.interpolations
+abbrev pub IsFlat : Source → Type 0
+IsFlat source = all_flat (syntax_of source) ≡ true
 
--- the template in the language's syntax; where a node stands in its file is not kept yet
-abbrev pub syntax_from : List Interpolation → List ℕ → Nodes
-syntax_from [] t = node (text_node t) no_nodes
-syntax_from (i ∷ is) t = node (text_node i.before) (node (at_place (record { line = 1; column = 1 }) (put (expr_view i.value))) (syntax_from is t))
+-- the place that a dynamic is
+abbrev pub place_of : Dynamic → Place
+place_of (Put e) = put (expr_view e)
+place_of (Attribute n e) = attribute n (expr_view e)
+place_of (Spread e) = spread (expr_view e)
 
-abbrev pub syntax_of : Compiled → Nodes
-syntax_of c = syntax_from c.interpolations c.last
-
--- the law: these are the statics and the places of the syntax
-abbrev pub CutsSyntax : Type 0
-CutsSyntax = (c : Compiled) → (cut (syntax_of c) ≡ statics_of c) × (places_in (syntax_of c) ≡ map put (values_of c))
+-- a template is compiled where all its places are of these kinds
+abbrev pub compiled_of : Source → Option Source
+compiled_of source = if all_flat (syntax_of source) then Some source else None

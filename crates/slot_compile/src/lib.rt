@@ -1,12 +1,13 @@
-//! Templates, cut at what is interpolated in them.
+//! Templates, flattened into constant texts and what changes between them.
 #![tactic(auto)]
 
 mod compiled;
+mod copying;
+mod flattening;
 mod formula;
-mod laws;
 #[cfg(test)]
 mod tests;
+mod walk;
 
-pub use compiled::{Compiled, Interpolation};
+pub use compiled::{Compiled, Dynamic, compile};
 pub use formula::Formula;
-pub use laws::cuts_syntax;

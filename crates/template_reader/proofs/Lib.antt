@@ -1,5 +1,3 @@
-pub mod Cuts
 pub mod Formulas
-pub mod Holes
 pub mod Readings
-pub mod Tags
+pub mod Taking

@@ -1,4 +1,2 @@
 pub mod Formula
-pub mod Pieces
-pub mod Parts
 pub mod Reading

@@ -1,4 +1,4 @@
-//! The reader of templates of texts and interpolations, and of the expressions in bundles.
+//! The reader of the templates and the expressions in bundles.
 #![tactic(auto)]
 
 mod formula;

@@ -1,22 +1,33 @@
 //! Templates, with what is read in them.
 
 use crate::read_template;
-use slot_compile::Compiled;
+use slot_compile::{Compiled, Dynamic};
 use std::alloc::Global;
 use std::test::Fail;
+use text_core::OutOfMemory;
 
-// How many expressions a template has, and its texts with `|` for each of them.
-fn shown(alloc: Global, read: Option<Compiled>) -> Result<String, Fail> {
+// The mark of a dynamic.
+fn mark(dynamic: &Dynamic) -> &'static str {
+    match dynamic {
+        Dynamic::Put(_) => "|",
+        Dynamic::Attribute { name: _, value: _ } => "|=",
+        Dynamic::Spread(_) => "|*",
+    }
+}
+
+// The constant texts of a template, with a mark for each dynamic.
+fn shown(alloc: Global, read: Option<Compiled>) -> Result<String, OutOfMemory> {
     let Some(compiled) = read else {
         return Ok(String::from_str(alloc, "none")?);
     };
-    let count = compiled.interpolations.len();
-    let mut line = format!(in alloc; "{count} ")?;
-    for interpolation in compiled.interpolations.as_slice() {
-        line.push_str(interpolation.before.as_str())?;
-        line.push('|')?;
+    let mut line = String::new(alloc);
+    let mut dynamics = compiled.dynamics().iter();
+    for text in compiled.statics() {
+        line.push_str(text.as_str())?;
+        if let Some(dynamic) = dynamics.next() {
+            line.push_str(mark(dynamic))?;
+        }
     }
-    line.push_str(compiled.last.as_str())?;
     Ok(line)
 }
 
@@ -24,24 +35,27 @@ fn shown(alloc: Global, read: Option<Compiled>) -> Result<String, Fail> {
 fn templates(rt: HostRuntime) -> Result<(), Fail> {
     let alloc = rt.alloc();
     for (text, expected) in [
-        ("", "0 "),
-        ("a } b", "0 a } b"),
-        ("<p></p>", "0 <p></p>"),
-        ("<p>{@a}</p>", "1 <p>|</p>"),
-        ("{@a + 1}x", "1 |x"),
-        ("{@a < @b} } ", "1 | } "),
-        ("{@a}{@b}", "2 ||"),
-        ("é{@a}→", "1 é|→"),
-        ("{@streamed}", "1 |"),
+        ("", ""),
+        ("a } b", "a } b"),
+        ("<p></p>", "<p></p>"),
+        ("<p>{@a}</p>", "<p>|</p>"),
+        ("{@a + 1}x", "|x"),
+        ("{@a}{@b}", "||"),
+        ("é{@a}→", "é|→"),
+        ("{\"}\"}", "|"),
+        ("<br>", "<br>"),
+        ("<b a={@a} {@b} c='d' e/>", "<b|=|* c='d' e></b>"),
+        ("a<%!-- b --%>c", "ac"),
+        ("{@streamed}", "|"),
         ("{@streams}", "none"),
-        ("{\"a\"}", "none"),
+        ("<b a={@streams.m} />", "none"),
         ("{ }", "none"),
         ("{@a", "none"),
-        ("{%{}}", "none"),
         ("<b>", "none"),
-        ("<p>", "none"),
-        ("x<p>{@a}</p>", "none"),
-        ("<p>{@a}</p> ", "none"),
+        ("<.card />", "none"),
+        ("<b :if={@a} />", "none"),
+        ("<%= if @a do %>b<% end %>", "none"),
+        ("x<p>{@a}</p> ", "x<p>|</p> "),
     ] {
         let found = shown(alloc, read_template(alloc, text)?)?;
         assert_eq!(rt; found.as_str(), expected, "of {text}");

@@ -1,38 +1,52 @@
-use Rattle.std.proofs.Common.{◌≡◌, ◌<◌, ◌≤◌, ◌+◌, List, [], ◌∷◌, ◌++◌, length, drop, get_or, Ok, Err, sym, ap, ◌∙◌, subst, append-nil, rules}
-use Rattle.std.proofs.Math.ListN.{drop_of_length-le}
+use Rattle.std.proofs.Common.{◌≡◌, ◌<◌, length, Ok, ◌∙◌, arith, rules}
 use Rattle.value_core.specs.View.{assigns_view}
-use Rattle.ast_core.specs.ExprView.{expr_view}
-use Rattle.ast_core.specs.declared.expr.Expr.{Expr}
-use Rattle.slot_compile.specs.declared.compiled.Interpolation.{Interpolation}
-use Rattle.diff_tree.proofs.Order.{cons_at}
-use Rattle.diff_render.specs.Shown.{shown_of, ShowsPlace}
-use Rattle.diff_render.proofs.Woven.{page_from, behind, renders_page, page_fault}
+use Rattle.diff_render.proofs.Woven.{page_of, all_left, behind_none, left, one_text_more, next_place, place_fault, last_text, renders_page}
 use Rattle.diff_render.proofs.full.page_text.Goals as goal
+
+pub places-init : goal.places-init
+places-init c =
+    let as' = assigns_view c.args.assigns.now in
+    let ss = c.statics-statics.result.now in
+    let ds = c.dynamics-dynamics.result.now in
+    all_left c.args.compiled.now as' ss ds c.statics-statics.ensures c.dynamics-dynamics.ensures.places ∙ behind_none (left as' ss ds 0) ∙ search rules
+
+pub bounds-statics-i : goal.bounds-statics-i
+bounds-statics-i c =
+    let more = one_text_more c.args.compiled.now c.statics-statics.result.now c.dynamics-dynamics.result.now c.statics-statics.ensures c.dynamics-dynamics.ensures.places in
+    omega (arith, more, c.places-test.true)
+
+pub bounds-statics-dynamics : goal.bounds-statics-dynamics
+bounds-statics-dynamics c =
+    let more = one_text_more c.args.compiled.now c.statics-statics.result.now c.dynamics-dynamics.result.now c.statics-statics.ensures c.dynamics-dynamics.ensures.places in
+    omega (arith, more)
 
 pub returns-in_err-shown : goal.returns-in_err-shown
 returns-in_err-shown c =
-    let as' = assigns_view c.args.assigns.now in
-    let is = c.args.compiled.now.interpolations in
-    let last = c.args.compiled.now.last in
-    let k = c.places.interpolation-index in
-    let i = c.interpolation-item.result in
-    let fault = c.in_err-shown.field-0.0 in
-    let within : k < length is = subst (λ (l : List Interpolation). k < length l) c.as_slice-interpolation-items.ensures c.places-test.true in
-    let item_is : i ≡ get_or is k i = subst (λ (l : List Interpolation). i ≡ get_or l k i) c.as_slice-interpolation-items.ensures c.interpolation-item.is in
-    let left : drop k is ≡ i ∷ drop (k + 1) is = cons_at is k i within item_is in
-    let so_far : page_from as' is last ≡ behind c.places.text (page_from as' (i ∷ drop (k + 1) is) last)
-    = c.places.invariant ∙ ap (λ (l : List Interpolation). behind c.places.text (page_from as' l last)) left in
-    let shows : ShowsPlace (Err fault) (shown_of as' (expr_view i.value)) = subst (λ (e : Expr). ShowsPlace (Err fault) (shown_of as' (expr_view e))) c.expr.ensures c.in_err-shown.ensures in
-    let h = page_fault c.args.compiled.now as' c.places.text i (drop (k + 1) is) fault so_far shows in
+    let ss = c.statics-statics.result.now in
+    let ds = c.dynamics-dynamics.result.now in
+    let more = one_text_more c.args.compiled.now ss ds c.statics-statics.ensures c.dynamics-dynamics.ensures.places in
+    let within : c.places.i < length ss = omega (arith, more, c.places-test.true) in
+    let h = place_fault c.args.compiled.now (assigns_view c.args.assigns.now) c.places.text c.index-statics-i.result ss c.index-dynamics-i.result ds c.places.i c.in_err-shown.field-0.0
+    within c.index-statics-i.is c.places-test.true c.index-dynamics-i.is c.places.invariant c.dynamics-dynamics.ensures.flat c.in_err-shown.ensures in
     search (rules, h)
+
+pub places-preserved : goal.places-preserved
+places-preserved c =
+    let as' = assigns_view c.args.assigns.now in
+    let ss = c.statics-statics.result.now in
+    let ds = c.dynamics-dynamics.result.now in
+    let more = one_text_more c.args.compiled.now ss ds c.statics-statics.ensures c.dynamics-dynamics.ensures.places in
+    let within : c.places.i < length ss = omega (arith, more, c.places-test.true) in
+    next_place as' (page_of as' c.args.compiled.now) c.places.text c.index-statics-i.result c.in_ok-shown.shown c.push_str-in-places.new.self ss c.index-dynamics-i.result ds c.places.i
+    within c.index-statics-i.is c.places-test.true c.index-dynamics-i.is c.places.invariant c.in_ok-shown.ensures (search rules)
 
 pub returns : goal.returns
 returns c =
     let as' = assigns_view c.args.assigns.now in
-    let is = c.args.compiled.now.interpolations in
-    let last = c.args.compiled.now.last in
-    let k = c.places.interpolation-index in
-    let none_left : drop k is ≡ [] = drop_of_length-le is (subst (λ (l : List Interpolation). length l ≤ k) c.as_slice-interpolation-items.ensures c.places-test.false) in
-    let so_far : page_from as' is last ≡ Ok (c.places.text ++ (last ++ [])) = c.places.invariant ∙ ap (λ (l : List Interpolation). behind c.places.text (page_from as' l last)) none_left in
-    let text_is : c.push_str-2.new.self ≡ c.places.text ++ last = c.in_ok-push_str-3.ensures.ok ∙ ap (λ l. c.places.text ++ l) c.as_str-2.ensures in
-    renders_page c.args.compiled.now as' (Ok c.push_str-2.new.self) (so_far ∙ ap (λ l. Ok (c.places.text ++ l)) (append-nil last) ∙ ap Ok (sym text_is))
+    let ss = c.statics-statics.result.now in
+    let ds = c.dynamics-dynamics.result.now in
+    let more = one_text_more c.args.compiled.now ss ds c.statics-statics.ensures c.dynamics-dynamics.ensures.places in
+    let ended : c.places.i ≡ length ds = omega (arith, c.places-test.false, c.places.auto.i-end) in
+    let beyond : length ds < length ss = omega (arith, more) in
+    renders_page c.args.compiled.now as' (Ok c.push_str-2.new.self) c.dynamics-dynamics.ensures.flat
+    (last_text as' (page_of as' c.args.compiled.now) c.places.text c.index-statics-dynamics.result c.push_str-2.new.self ss ds c.places.i ended beyond c.index-statics-dynamics.is c.places.invariant (search rules))

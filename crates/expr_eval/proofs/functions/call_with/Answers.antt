@@ -1,4 +1,4 @@
-use Rattle.std.proofs.Common.{◌≡◌, ◌≤◌, length, arith}
+use Rattle.std.proofs.Common.{◌≤◌, length, arith}
 use Rattle.expr_eval.proofs.Views.{other_count}
 use Rattle.expr_eval.proofs.functions.call_with.Goals as goal
 

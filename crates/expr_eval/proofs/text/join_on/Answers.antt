@@ -1,4 +1,4 @@
-use Rattle.std.proofs.Common.{rules, ◌≡◌, ◌+◌, ◌++◌, drop, Err, sym, ap, ◌∙◌}
+use Rattle.std.proofs.Common.{rules, ◌+◌, ◌++◌, drop, Err, sym, ap, ◌∙◌}
 use Rattle.value_core.specs.View.{values_view}
 use Rattle.doc_model.specs.Evaluation.{on_res}
 use Rattle.expr_eval.specs.Gives.{Gives, text_as_is}

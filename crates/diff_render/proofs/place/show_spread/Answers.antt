@@ -1,0 +1,18 @@
+use Rattle.std.proofs.Common.{rules}
+use Rattle.value_core.specs.View.{view, assigns_view}
+use Rattle.ast_core.specs.ExprView.{expr_view}
+use Rattle.doc_model.specs.Evaluation.{eval_expr}
+use Rattle.doc_model.specs.Printing.{print_spread}
+use Rattle.diff_render.specs.Met.{scope_of}
+use Rattle.diff_render.proofs.Shows.{faults, shows}
+use Rattle.diff_render.proofs.place.show_spread.Goals as goal
+
+pub returns-in_err-value : goal.returns-in_err-value
+returns-in_err-value c =
+    let h = faults c.in_err-value.field-0.0 (eval_expr (scope_of (assigns_view c.args.assigns.now)) (expr_view c.args.expr.now)) print_spread c.in_err-value.ensures in
+    search (rules, h)
+
+pub returns : goal.returns
+returns c =
+    let r = eval_expr (scope_of (assigns_view c.args.assigns.now)) (expr_view c.args.expr.now) in
+    shows c.told.result c.in_ok-value.value r print_spread c.in_ok-value.ensures (c.told.ensures (print_spread (view c.in_ok-value.value)) c.spread_text.ensures)

@@ -1,0 +1,16 @@
+pub mod Located
+pub mod Signs
+pub mod Contents
+pub mod Grammar
+pub mod Machine
+pub mod Answers
+pub mod Pieces
+pub mod Tags
+pub mod Reading
+pub mod SeenSigns
+pub mod Onto
+pub mod Fits
+pub mod Stack
+pub mod Seen
+pub mod Leads
+pub mod Gives

@@ -1,0 +1,10 @@
+pub mod Cuts
+pub mod Cutting
+pub mod Examples
+pub mod Joining
+pub mod Keeping
+pub mod Names
+pub mod Passing
+pub mod Scans
+pub mod Slicing
+pub mod Tags
