@@ -75,7 +75,8 @@ fn template(alloc: Global) -> Result<Nodes, OutOfMemory> {
 
 // The app of a template at `/`.
 fn app_of(alloc: Global, compiled: Compiled) -> Result<Option<App<Greeting>>, OutOfMemory> {
-    let paths = one(alloc, Text::copy_of(alloc, "/")?)?;
+    let mut paths = Seq::new(alloc);
+    paths.push(Text::copy_of(alloc, "/")?)?;
     match Routes::build(alloc, &paths) {
         Ok(routes) => Ok(Some(App::build(compiled, routes, Greeting))),
         Err(_) => Ok(None),
