@@ -11,16 +11,27 @@ use std::test::Fail;
 use text_core::{Frames, OutOfMemory, Seq, Text};
 use view_api::Greeting;
 
-// `Greeting: {@greeting}`
-fn template(alloc: Global) -> Result<Nodes, OutOfMemory> {
-    let at = Location {
-        line: 1,
-        column: 11,
-    };
+// `Greeting: `
+fn label(alloc: Global) -> Result<Node, OutOfMemory> {
+    Ok(Node::Text(Text::copy_of(alloc, "Greeting: ")?))
+}
+
+// `{@greeting}`
+fn greeting(alloc: Global) -> Result<Node, OutOfMemory> {
     let place = Place::Put(Expr::Assign(Text::copy_of(alloc, "greeting")?));
+    Ok(Node::Place {
+        at: Location {
+            line: 1,
+            column: 11,
+        },
+        place,
+    })
+}
+
+fn template(alloc: Global) -> Result<Nodes, OutOfMemory> {
     let mut nodes = Seq::new(alloc);
-    nodes.push(Node::Text(Text::copy_of(alloc, "Greeting: ")?))?;
-    nodes.push(Node::Place { at, place })?;
+    nodes.push(label(alloc)?)?;
+    nodes.push(greeting(alloc)?)?;
     Ok(nodes)
 }
 
