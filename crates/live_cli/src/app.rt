@@ -31,6 +31,7 @@ fn home_routes(alloc: Global) -> Result<Routes, OutOfMemory>
 }
 
 /// The app of a bundle: its template, and its view at `/`, whose handlers are the manifest's steps.
+#[tactic(auto, unfolding(crate::specs::App::app_of))]
 pub fn app_of(alloc: Global, bundle: Bundle) -> Result<App<ScriptViews>, OutOfMemory>
     ensures { IfOk result (λ app. app ≡ app_of bundle) }
 {
