@@ -1,3 +1,4 @@
+mod Ends
 mod Fronts
 mod Sources
 mod Routes
