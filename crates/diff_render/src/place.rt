@@ -16,7 +16,7 @@ use crate::RenderFault;
 use ast_core::Expr;
 use attribute_text::{AttributeFault, attribute_text, spread_text};
 use diff_tree::PlaceValue;
-use expr_eval::{EvalFault, eval};
+use expr_eval::{EvalFault, Variables, eval};
 use slot_compile::Dynamic;
 use std::alloc::Global;
 use text_core::{ByKey, OutOfMemory, Text};
@@ -76,7 +76,7 @@ pub(crate) fn show_spread(
 fn value_of(alloc: Global, assigns: &Assigns, expr: &Expr) -> Result<Value, RenderFault>
     ensures { Evaluates result (eval_expr (scope_of (assigns_view assigns.now)) (expr_view expr.now)) }
 {
-    let variables = ByKey::new(alloc);
+    let variables = Variables::new(alloc);
     match eval(alloc, assigns, &variables, expr) {
         Ok(value) => Ok(value),
         Err(EvalFault::Raised(_)) => Err(RenderFault::Raised),

@@ -5,3 +5,4 @@ pub mod Keys
 pub mod Listed
 pub mod Forms
 pub mod Along
+pub mod Scopes

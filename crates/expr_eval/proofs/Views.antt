@@ -44,11 +44,11 @@ lookup_over k model.no_assigns es = refl
 lookup_over k (model.assign l v gs) es = stands (bytes_eq k l) v (scope.lookup k (scope.over gs es)) (scope.lookup k gs) (scope.lookup k es) (lookup_over k gs es)
 
 -- given entries stand over others
-pub over_seen : (k : List ℕ) (gs es : List (KeyValue Value)) (o : Option Value) → o ≡ lookup k gs
-    → scope.lookup k (scope.over (assigns_view gs) (assigns_view es)) ≡ first_of (option_map view o) (scope.lookup k (assigns_view es))
-over_seen k gs es o h =
-    lookup_over k (assigns_view gs) (assigns_view es)
-    ∙ ap (λ m. first_of m (scope.lookup k (assigns_view es))) (sym (lookup_seen k gs) ∙ ap (option_map view) (sym h))
+pub over_seen : (k : List ℕ) (gs : List (KeyValue Value)) (bs : model.Assigns) (o : Option Value) → o ≡ lookup k gs
+    → scope.lookup k (scope.over (assigns_view gs) bs) ≡ first_of (option_map view o) (scope.lookup k bs)
+over_seen k gs bs o h =
+    lookup_over k (assigns_view gs) bs
+    ∙ ap (λ m. first_of m (scope.lookup k bs)) (sym (lookup_seen k gs) ∙ ap (option_map view) (sym h))
 
 there : (o : Option Value) → is_there (option_map view o) ≡ is_some o
 there None = refl

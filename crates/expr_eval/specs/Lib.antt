@@ -1,4 +1,5 @@
 pub mod Gives
+pub mod Variables
 pub mod Scope
 pub mod Held
 pub mod Operands

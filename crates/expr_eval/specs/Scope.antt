@@ -9,13 +9,15 @@ use Rattle.value_core.specs.declared.value.Value.{Value}
 use Rattle.doc_model.specs.Environment.{Env, Stream, Component, over}
 use Rattle.doc_model.specs.Evaluation.{or_value}
 use Rattle.expr_eval.specs.declared.scope.Scope.{Scope}
+use Rattle.expr_eval.specs.declared.variables.Variables.{Variables}
+use Rattle.expr_eval.specs.Variables.{variables_view}
 
-abbrev pub env_with : List (KeyValue Value) → List (KeyValue Value) → Option (List ℕ → Stream) → List Component → Env
-env_with assigns variables streams components = record { assigns = assigns_view assigns; variables = assigns_view variables; streams = streams; components = components }
+abbrev pub env_with : List (KeyValue Value) → Variables → Option (List ℕ → Stream) → List Component → Env
+env_with assigns variables streams components = record { assigns = assigns_view assigns; variables = variables_view variables.scopes; streams = streams; components = components }
 
 -- given assigns stand over the others
-abbrev pub env_over : List (KeyValue Value) → List (KeyValue Value) → List (KeyValue Value) → Option (List ℕ → Stream) → List Component → Env
-env_over given assigns variables streams components = record { assigns = over (assigns_view given) (assigns_view assigns); variables = assigns_view variables; streams = streams; components = components }
+abbrev pub env_over : List (KeyValue Value) → List (KeyValue Value) → Variables → Option (List ℕ → Stream) → List Component → Env
+env_over given assigns variables streams components = record { assigns = over (assigns_view given) (assigns_view assigns); variables = variables_view variables.scopes; streams = streams; components = components }
 
 -- without streams and components: no expression reads one
 abbrev pub env_of : Scope → Env

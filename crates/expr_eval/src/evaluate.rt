@@ -10,7 +10,6 @@ ghost use Rattle.expr_eval.specs.Gives.{Gives, text_as_is};
 ghost use Rattle.expr_eval.specs.Held.{held_view, held_values};
 ghost use Rattle.expr_eval.specs.Scope.{env_of, env_over, env_with, place_view};
 
-use crate::EvalFault;
 use crate::functions::call;
 use crate::held::Held;
 use crate::judge::{built, decides, was_true};
@@ -19,6 +18,7 @@ use crate::operators::{binary, unary};
 use crate::right_chain::{Waiting, take_back};
 use crate::scope::Scope;
 use crate::text::printed_out;
+use crate::{EvalFault, Variables};
 use ast_core::{Expr, Exprs, Operand, Pairs, Parts, PathStep, PipeCall, TextPart};
 use std::alloc::Global;
 use text_core::{ByKey, Seq, Text};
@@ -29,7 +29,7 @@ use value_core::{Assigns, Raise, Value, Values};
 pub fn eval(
     alloc: Global,
     assigns: &Assigns,
-    variables: &Assigns,
+    variables: &Variables,
     expr: &Expr,
 ) -> Result<Value, EvalFault>
     ensures { (streams : Option (List ℕ → Stream)) → (components : List Component)
@@ -44,7 +44,7 @@ pub fn eval_over(
     alloc: Global,
     given: &Assigns,
     assigns: &Assigns,
-    variables: &Assigns,
+    variables: &Variables,
     expr: &Expr,
 ) -> Result<Value, EvalFault>
     ensures { (streams : Option (List ℕ → Stream)) → (components : List Component)

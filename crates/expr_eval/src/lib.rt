@@ -15,7 +15,9 @@ mod scope;
 #[cfg(test)]
 mod tests;
 mod text;
+mod variables;
 
 pub use evaluate::{eval, eval_over};
 pub use fault::EvalFault;
 pub use judge::is_true;
+pub use variables::{Bindings, Variables};

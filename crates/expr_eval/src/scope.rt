@@ -3,6 +3,7 @@ ghost use Rattle.std.specs.Prelude.{◌≡◌};
 ghost use Rattle.doc_model.specs.Environment.{lookup};
 ghost use Rattle.expr_eval.specs.Scope.{env_of, seen};
 
+use crate::Variables;
 use value_core::{Assigns, Value};
 
 /// Given assigns, the assigns that they stand over, and the variables.
@@ -10,7 +11,7 @@ use value_core::{Assigns, Value};
 pub(crate) struct Scope<'a> {
     pub(crate) given: &'a Assigns,
     pub(crate) assigns: &'a Assigns,
-    pub(crate) variables: &'a Assigns,
+    pub(crate) variables: &'a Variables,
 }
 
 impl<'a> Scope<'a> {

@@ -1,15 +1,15 @@
 //! Small expressions, against worked examples.
-use crate::{EvalFault, eval, eval_over};
+use crate::{Bindings, EvalFault, Variables, eval, eval_over};
 use ast_core::{BinaryOp, Expr, Function, Operand, PathStep};
 use std::alloc::Global;
 use std::test::Fail;
-use text_core::{ByKey, OutOfMemory, Seq, Text};
+use text_core::{ByKey, KeyValue, OutOfMemory, Seq, Text};
 use value_core::{Assigns, Raise, Value};
 
 // The value of an expression where nothing is in scope.
 fn evaluated(alloc: Global, expr: &Expr) -> Result<Value, EvalFault> {
     let assigns = ByKey::new(alloc);
-    let variables = ByKey::new(alloc);
+    let variables = Variables::new(alloc);
     eval(alloc, &assigns, &variables, expr)
 }
 
@@ -95,7 +95,7 @@ fn call_two(alloc: Global, function: Function, one: Expr, two: Expr) -> Result<E
 
 // The value of an expression over some assigns.
 fn over(alloc: Global, assigns: &Assigns, expr: &Expr) -> Result<Value, EvalFault> {
-    let variables = ByKey::new(alloc);
+    let variables = Variables::new(alloc);
     eval(alloc, assigns, &variables, expr)
 }
 
@@ -163,7 +163,7 @@ fn a_path_of_three_fields(rt: HostRuntime) -> Result<(), Fail> {
     steps.push(PathStep::Field(Text::copy_of(alloc, "city")?))?;
     let value = Box::new(alloc, assign(alloc, "page")?)?;
     let path = Expr::Path { value, steps };
-    let variables = ByKey::new(alloc);
+    let variables = Variables::new(alloc);
     let value = eval(alloc, &assigns, &variables, &path)?;
     assert!(rt; matches!(&value, Value::Int(7)));
     Ok(())
@@ -179,7 +179,7 @@ fn an_index_of_nil(rt: HostRuntime) -> Result<(), Fail> {
     steps.push(PathStep::Index(Expr::Atom(Text::copy_of(alloc, "city")?)))?;
     let value = Box::new(alloc, assign(alloc, "page")?)?;
     let path = Expr::Path { value, steps };
-    let variables = ByKey::new(alloc);
+    let variables = Variables::new(alloc);
     let value = eval(alloc, &assigns, &variables, &path)?;
     assert!(rt; matches!(&value, Value::Nil));
     Ok(())
@@ -191,7 +191,7 @@ fn given_over_others(rt: HostRuntime) -> Result<(), Fail> {
     let given = entry(alloc, "title", Value::Int(1))?;
     let mut assigns = entry(alloc, "title", Value::Int(2))?;
     assigns.insert(Text::copy_of(alloc, "count")?, Value::Int(3))?;
-    let variables = ByKey::new(alloc);
+    let variables = Variables::new(alloc);
     let title = assign(alloc, "title")?;
     let value = eval_over(alloc, &given, &assigns, &variables, &title)?;
     assert!(rt; matches!(&value, Value::Int(1)));
@@ -267,5 +267,61 @@ fn the_greater_is_a_number(rt: HostRuntime) -> Result<(), Fail> {
     let expr = call_two(alloc, Function::Max, count, Expr::Number(8))?;
     let value = over(alloc, &assigns, &expr)?;
     assert!(rt; matches!(&value, Value::Int(8)));
+    Ok(())
+}
+
+// A list of bindings with one name.
+fn bound(alloc: Global, name: &str, value: i64) -> Result<Bindings, OutOfMemory> {
+    let mut bindings = Seq::new(alloc);
+    bindings.push(KeyValue {
+        key: Text::copy_of(alloc, name)?,
+        value: Value::Int(value),
+    })?;
+    Ok(bindings)
+}
+
+// The number of a variable.
+fn number_of(variables: &Variables, name: &str) -> Option<i64> {
+    match variables.get(name) {
+        Some(Value::Int(n)) => Some(*n),
+        _ => None,
+    }
+}
+
+#[test]
+fn scopes_inside_others(rt: HostRuntime) -> Result<(), Fail> {
+    let alloc = rt.alloc();
+    let mut variables = Variables::of(alloc, Text::copy_of(alloc, "x")?, Value::Int(1))?;
+    variables.enter(bound(alloc, "y", 2)?)?;
+    variables.enter(bound(alloc, "x", 3)?)?;
+    assert_eq!(rt; variables.depth(), 3);
+    assert_eq!(rt; number_of(&variables, "x"), Some(3));
+    assert_eq!(rt; number_of(&variables, "y"), Some(2));
+    assert_eq!(rt; number_of(&variables, "z"), None);
+    let inner = variables.leave().ok_or("no scope")?;
+    assert_eq!(rt; inner.len(), 1);
+    assert_eq!(rt; number_of(&variables, "x"), Some(1));
+    assert_eq!(rt; variables.depth(), 2);
+    Ok(())
+}
+
+#[test]
+fn the_first_of_a_name_holds(rt: HostRuntime) -> Result<(), Fail> {
+    let alloc = rt.alloc();
+    let mut bindings = bound(alloc, "x", 1)?;
+    bindings.push(KeyValue {
+        key: Text::copy_of(alloc, "x")?,
+        value: Value::Int(2),
+    })?;
+    let mut variables = Variables::new(alloc);
+    variables.enter(bindings)?;
+    let assigns = ByKey::new(alloc);
+    let value = eval(
+        alloc,
+        &assigns,
+        &variables,
+        &Expr::Name(Text::copy_of(alloc, "x")?),
+    )?;
+    assert!(rt; matches!(&value, Value::Int(1)));
     Ok(())
 }

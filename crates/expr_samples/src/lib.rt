@@ -1,5 +1,8 @@
-//! Texts of expressions, and what they come to by the reader and the evaluator together. There is nothing here but tests.
+//! Texts of expressions and patterns, and what they come to by the reader and the evaluator together. There is nothing here
+//! but tests.
 #![tactic(auto)]
 
+#[cfg(test)]
+mod patterns;
 #[cfg(test)]
 mod tests;

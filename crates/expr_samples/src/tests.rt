@@ -1,10 +1,10 @@
 //! Texts of expressions, each with what it comes to: a JSON value or an atom, a raise, or a refusal and its byte.
 use ast_core::Expr;
 use expr_core::{ExprFault, ExprKind, read_expr};
-use expr_eval::{EvalFault, eval};
+use expr_eval::{EvalFault, Variables, eval};
 use std::alloc::Global;
 use std::test::Fail;
-use text_core::{ByKey, Text};
+use text_core::Text;
 use value_core::{Assigns, Value, from_json, to_json};
 
 const LITERALS_AND_NAMES: &str =
@@ -24,8 +24,6 @@ const REFUSED_TEXTS: &str =
 
 // What is in scope.
 const ASSIGNS: &str = "{\"l\":[1,2,3],\"m\":{\"a\":1,\"b\":{\"c\":2}},\"n\":7,\"t\":\"x\"}";
-
-const VARIABLES: &str = "{\"v\":3}";
 
 fn scope(alloc: Global, json: &str) -> Result<Assigns, Fail> {
     let json = serde_json::Value::from_slice(alloc, json.as_bytes())
@@ -50,7 +48,7 @@ fn refusal(alloc: Global, at: usize, kind: ExprKind) -> Result<String, Fail> {
 
 fn evaluated(alloc: Global, expr: &Expr) -> Result<String, Fail> {
     let assigns = scope(alloc, ASSIGNS)?;
-    let variables = scope(alloc, VARIABLES)?;
+    let variables = Variables::of(alloc, Text::copy_of(alloc, "v")?, Value::Int(3))?;
     match eval(alloc, &assigns, &variables, expr) {
         Ok(Value::Atom(name)) => {
             let name = name.as_str();

@@ -4,13 +4,14 @@ ghost use Rattle.value_core.specs.Value.{Assigns as Scope};
 ghost use Rattle.value_core.specs.View.{view, assigns_view};
 ghost use Rattle.ast_core.specs.ExprView.{expr_view};
 ghost use Rattle.doc_model.specs.Environment.{over};
+ghost use Rattle.expr_eval.specs.Variables.{variables_view};
 ghost use Rattle.bundle_files.specs.StepsView.{step_view, steps_view};
 ghost use Rattle.view_api.specs.View.{Means};
 ghost use Rattle.view_script.specs.Script.{Done, given, value_in, step_done, steps_done, effects_of};
 ghost use Rattle.view_script.specs.Doing.{Stands, Does, Values};
 
 use bundle_files::{Step, Steps};
-use expr_eval::{EvalFault, eval_over, is_true};
+use expr_eval::{EvalFault, Variables, eval_over, is_true};
 use slot_compile::Formula;
 use std::alloc::Global;
 use text_core::{ByKey, OutOfMemory, Seq, Text};
@@ -29,11 +30,11 @@ pub(crate) struct Doing {
 fn value_of(
     alloc: Global,
     doing: &Doing,
-    variables: &Assigns,
+    variables: &Variables,
     assigns: &Assigns,
     value: &Formula,
 ) -> Result<Value, ViewFault>
-    ensures { Values result (value_in (assigns_view variables.now) (over (assigns_view doing.now.given) (assigns_view assigns.now)) (expr_view value.now)) }
+    ensures { Values result (value_in (variables_view variables.now.scopes) (over (assigns_view doing.now.given) (assigns_view assigns.now)) (expr_view value.now)) }
 {
     match eval_over(alloc, &doing.given, assigns, variables, value.expr()) {
         Ok(value) => Ok(value),
@@ -61,12 +62,12 @@ fn give(alloc: Global, name: &Text, value: Value, doing: &mut Doing) -> Result<(
 fn do_step(
     alloc: Global,
     step: &Step,
-    variables: &Assigns,
+    variables: &Variables,
     assigns: &Assigns,
     doing: &mut Doing,
 ) -> Result<(), ViewFault>
     ensures { (d : Done) → Stands (assigns_view assigns.now) doing.old d
-        → Does (assigns_view assigns.now) doing.new result (step_done (assigns_view variables.now) (step_view step.now) d) }
+        → Does (assigns_view assigns.now) doing.new result (step_done (variables_view variables.now.scopes) (step_view step.now) d) }
 {
     match step {
         Step::Assign { name, value } => {
@@ -90,12 +91,12 @@ fn do_step(
 fn do_steps(
     alloc: Global,
     steps: &Steps,
-    variables: &Assigns,
+    variables: &Variables,
     assigns: &Assigns,
     doing: &mut Doing,
 ) -> Result<(), ViewFault>
     ensures { (d : Done) → Stands (assigns_view assigns.now) doing.old d
-        → Does (assigns_view assigns.now) doing.new result (steps_done (assigns_view variables.now) (steps_view steps.now) d) }
+        → Does (assigns_view assigns.now) doing.new result (steps_done (variables_view variables.now.scopes) (steps_view steps.now) d) }
 {
     'steps: for step in steps.as_slice() {
         do_step(alloc, step, variables, assigns, doing)?;
@@ -108,10 +109,10 @@ fn do_steps(
 pub fn effects_of(
     alloc: Global,
     steps: &Steps,
-    variables: &Assigns,
+    variables: &Variables,
     assigns: &Assigns,
 ) -> Result<Effects, ViewFault>
-    ensures { Means result (effects_of (assigns_view variables.now) (assigns_view assigns.now) (steps_view steps.now)) }
+    ensures { Means result (effects_of (variables_view variables.now.scopes) (assigns_view assigns.now) (steps_view steps.now)) }
 {
     let mut doing = Doing {
         given: ByKey::new(alloc),

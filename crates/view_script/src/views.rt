@@ -1,11 +1,13 @@
 //! Views by the steps of a manifest.
 ghost use Rattle.std.specs.Prelude.{◌≡◌, IfOk};
 ghost use Rattle.value_core.specs.View.{view as value_view, assigns_view};
+ghost use Rattle.expr_eval.specs.Variables.{variables_view};
 ghost use Rattle.view_api.specs.View.{Means};
 ghost use Rattle.view_script.specs.Views.{script_of, variable, begun, nothing_done, taken, meaning_of_script};
 
 use crate::script::effects_of;
 use bundle_files::{Events, Steps};
+use expr_eval::Variables;
 use std::alloc::Global;
 use text_core::{ByKey, OutOfMemory, Seq, Text};
 use value_core::{Assigns, Value, copy};
@@ -38,12 +40,10 @@ fn nothing_done(alloc: Global, view: u32) -> Result<Effects, ViewFault>
 }
 
 // The one variable of a handler.
-fn variable(alloc: Global, name: &str, value: &Value) -> Result<Assigns, OutOfMemory>
-    ensures { IfOk result (λ as'. assigns_view as' ≡ variable name.now (value_view value.now)) }
+fn variable(alloc: Global, name: &str, value: &Value) -> Result<Variables, OutOfMemory>
+    ensures { IfOk result (λ vs. variables_view vs.scopes ≡ variable name.now (value_view value.now)) }
 {
-    let mut variables = ByKey::new(alloc);
-    variables.insert(Text::copy_of(alloc, name)?, copy(alloc, value)?)?;
-    Ok(variables)
+    Variables::of(alloc, Text::copy_of(alloc, name)?, copy(alloc, value)?)
 }
 
 fn begun(

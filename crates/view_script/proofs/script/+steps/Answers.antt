@@ -1,6 +1,7 @@
 use Rattle.std.proofs.Common.{◌≡◌, ◌≤◌, List, length, drop, true, false, Err, sym, ◌∙◌, subst, arith, rules}
 use Rattle.value_core.specs.View.{view, assigns_view}
 use Rattle.doc_model.specs.Evaluation.{is_true}
+use Rattle.expr_eval.specs.Variables.{variables_view}
 use Rattle.bundle_files.specs.StepsView.{step_view, steps_view}
 use Rattle.bundle_files.specs.declared.bundle.Step.{Step}
 use Rattle.view_script.specs.Script.{step_done, steps_done}
@@ -10,12 +11,12 @@ use Rattle.view_script.proofs.script.+steps.Goals as goal
 
 pub do_steps-steps-preserved : goal.do_steps-steps-preserved
 do_steps-steps-preserved t c d s =
-    goes_on (assigns_view c.args.variables.now) (assigns_view c.args.assigns.now) c.as_slice-step-items.result.now c.steps.step-index c.step-item.result c.steps.doing c.do_step.new.doing c.in_ok-do_step.field-0 _
+    goes_on (variables_view c.args.variables.now.scopes) (assigns_view c.args.assigns.now) c.as_slice-step-items.result.now c.steps.step-index c.step-item.result c.steps.doing c.do_step.new.doing c.in_ok-do_step.field-0 _
     c.steps-test.true c.step-item.is c.in_ok-do_step.ensures (c.steps.invariant d s)
 
 pub do_steps-returns-in_err-do_step : goal.do_steps-returns-in_err-do_step
 do_steps-returns-in_err-do_step t c d s =
-    let vs = assigns_view c.args.variables.now in
+    let vs = variables_view c.args.variables.now.scopes in
     let before = assigns_view c.args.assigns.now in
     let items = c.as_slice-step-items.result.now in
     let begun : GoesOn vs before (drop c.steps.step-index items) c.steps.doing (steps_done vs (steps_view c.args.steps.now) d)
@@ -26,7 +27,7 @@ do_steps-returns-in_err-do_step t c d s =
 
 pub do_steps-returns : goal.do_steps-returns
 do_steps-returns t c d s =
-    let vs = assigns_view c.args.variables.now in
+    let vs = variables_view c.args.variables.now.scopes in
     let before = assigns_view c.args.assigns.now in
     let items = c.as_slice-step-items.result.now in
     let past : length items ≤ c.steps.step-index = omega arith in
@@ -35,7 +36,7 @@ do_steps-returns t c d s =
 
 pub do_step-returns-in_err-value-in-Assign : goal.do_step-returns-in_err-value-in-Assign
 do_step-returns-in_err-value-in-Assign t c d s =
-    let vs = assigns_view c.args.variables.now in
+    let vs = variables_view c.args.variables.now.scopes in
     let before = assigns_view c.args.assigns.now in
     let h : Does {A = Unit {0}} before c.args.doing.now (Err c.in_err-value-in-Assign.field-0.0) (step_done vs (step_view c.args.step.now) d)
     = not_assigned (Unit {0}) vs before c.args.doing.now c.args.doing.now c.in_err-value-in-Assign.field-0.0 c.args.step.now c.in-Assign.name c.in-Assign.value d c.in-Assign.is c.in_err-value-in-Assign.ensures s in
@@ -43,14 +44,14 @@ do_step-returns-in_err-value-in-Assign t c d s =
 
 pub do_step-returns-in-Assign : goal.do_step-returns-in-Assign
 do_step-returns-in-Assign t c d s =
-    let vs = assigns_view c.args.variables.now in
+    let vs = variables_view c.args.variables.now.scopes in
     let before = assigns_view c.args.assigns.now in
     assigned vs before c.args.doing.now c.give.new.doing (tt {0}) c.args.step.now c.in-Assign.name c.in-Assign.value c.in_ok-value-in-Assign.value d
     c.in-Assign.is c.in_ok-value-in-Assign.ensures s (c.in_ok-give-in-Assign.ensures before d s)
 
 pub do_step-returns-in_err-value-in-When : goal.do_step-returns-in_err-value-in-When
 do_step-returns-in_err-value-in-When t c d s =
-    let vs = assigns_view c.args.variables.now in
+    let vs = variables_view c.args.variables.now.scopes in
     let before = assigns_view c.args.assigns.now in
     let h : Does {A = Unit {0}} before c.args.doing.now (Err c.in_err-value-in-When.field-0.0) (step_done vs (step_view c.args.step.now) d)
     = not_tested (Unit {0}) vs before c.args.doing.now c.args.doing.now c.in_err-value-in-When.field-0.0 c.args.step.now c.in-When.test c.in-When.yes c.in-When.no d c.in-When.is c.in_err-value-in-When.ensures s in
@@ -58,7 +59,7 @@ do_step-returns-in_err-value-in-When t c d s =
 
 pub do_step-returns-then-is_true : goal.do_step-returns-then-is_true
 do_step-returns-then-is_true t c d s =
-    let vs = assigns_view c.args.variables.now in
+    let vs = variables_view c.args.variables.now.scopes in
     let before = assigns_view c.args.assigns.now in
     let v = view c.in_ok-value-in-When.value in
     let met : is_true v ≡ true = sym c.is_true.ensures ∙ c.if-is_true.true in
@@ -67,7 +68,7 @@ do_step-returns-then-is_true t c d s =
 
 pub do_step-returns : goal.do_step-returns
 do_step-returns t c d s =
-    let vs = assigns_view c.args.variables.now in
+    let vs = variables_view c.args.variables.now.scopes in
     let before = assigns_view c.args.assigns.now in
     let v = view c.in_ok-value-in-When.value in
     let unmet : is_true v ≡ false = sym c.is_true.ensures ∙ c.if-is_true.false in
