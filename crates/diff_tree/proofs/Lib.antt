@@ -4,9 +4,8 @@ pub mod Levels
 pub mod Batches
 pub mod Looks
 pub mod Order
-mod Statics
+pub mod Keys
+pub mod Whole
 pub mod Stored
 pub mod ReadsBack
-mod Written
-pub mod Taken
-mod Spelled
+pub mod Spelled

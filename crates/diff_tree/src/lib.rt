@@ -1,15 +1,16 @@
 //! Trees, diffs and what a client makes of them.
 #![tactic(auto)]
 
+mod diff;
 mod fault;
 pub mod laws;
 mod part;
-mod reading;
-#[cfg(test)]
-mod tests;
-mod writing;
+mod plain;
+mod push;
+mod stream;
 
+pub use diff::{ComponentPart, Diff};
 pub use fault::DiffFault;
-pub use part::{Diff, Part, PlaceValue};
-pub use reading::{read_diff, read_diff_value};
-pub use writing::{diff_value, write_diff};
+pub use part::{Part, PartBody, PlaceValue, Row};
+pub use push::{Push, Pushes};
+pub use stream::{StreamInsert, StreamPart};

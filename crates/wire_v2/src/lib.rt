@@ -25,4 +25,4 @@ pub use frame_reading::read_frame;
 pub use frame_writing::write_frame;
 pub use head::MessageHead;
 pub use message::{Message, MessageFault, read_message};
-pub use push::{Push, Pushes};
+pub use push::push_of_value;
