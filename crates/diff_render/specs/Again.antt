@@ -1,5 +1,6 @@
 -- What the renderer answers of a place that is rendered again.
 use Rattle.std.specs.Prelude.{◌≡◌, ℕ, List, [], ◌==◌, Bool, true, false, Option, Some, None, Ok, Result}
+use Rattle.serde_json.specs.Data.{string}
 use Rattle.text_core.specs.declared.by_key.KeyValue.{KeyValue}
 use Rattle.value_core.specs.Value.{Assigns}
 use Rattle.value_core.specs.View.{assigns_view}
@@ -7,8 +8,9 @@ use Rattle.value_core.specs.declared.value.Value.{Value}
 use Rattle.ast_core.specs.Free.{free_names, free_place}
 use Rattle.ast_core.specs.Places.{places_in}
 use Rattle.ast_core.specs.Syntax.{Name, Nodes, Place, put, attribute, spread, if_place, case_place, for_place}
-use Rattle.slot_compile.specs.Numbering.{node_at}
+use Rattle.slot_compile.specs.Numbering.{node_at, place_in}
 use Rattle.slot_compile.specs.Template.{Source, syntax_of}
+use Rattle.slot_compile.specs.declared.compiled.Dynamic.{Dynamic}
 use Rattle.diff_tree.specs.Tree.{text, Rows, no_rows, row, Change, write}
 use Rattle.diff_tree.specs.declared.part.PlaceValue.{PlaceValue}
 use Rattle.assigns_track.specs.declared.tracked.Tracked.{Tracked}
@@ -21,8 +23,10 @@ use Rattle.diff_render.specs.Prints as model
 use Rattle.diff_render.specs.Prints.{Prints, Remembers, RemembersAll, of_rows, of_text, row_prints, print_view, prints_view}
 use Rattle.diff_render.specs.Renders.{AreLean, IsLean}
 use Rattle.diff_render.specs.Scope.{alone}
+use Rattle.diff_render.specs.Shown.{shown_at}
 use Rattle.diff_render.specs.Taken.{IsChoice, taken}
 use Rattle.diff_render.specs.Tracked.{HasSettled, IsNoted, bound_before, scope_now, scope_then}
+use Rattle.diff_render.specs.Values.{option_seen}
 use Rattle.diff_render.specs.declared.choice.Choice.{Choice}
 use Rattle.diff_render.specs.declared.fault.RenderFault.{RenderFault}
 use Rattle.diff_render.specs.declared.print.Print.{Print}
@@ -88,7 +92,8 @@ GivesText t tr p r = Answers (λ a b. (option_seen a.0 ≡ Some (string b)) × (
 -- a place whose deciding names do not differ
 abbrev pub GivesUnchanged : Source → Tracked → Tracking → Print → ℕ → Result (Option PlaceValue × Print) RenderFault → Type 0
 GivesUnchanged c t tr print k r =
-    (p : Place) (before : Assigns) (old : Item) → HasSettled t before → IsNoted tr → trace_place alone (trace alone k) (scope_then before tr) p ≡ Ok old
+    (d : Dynamic) (before : Assigns) (old : Item) → let p = place_in (syntax_of c) d in
+    HasSettled t before → IsNoted tr → trace_place alone (trace alone k) (scope_then before tr) p ≡ Ok old
     → Remembers (syntax_of c) (scope_then before tr) (print_view print) p
     → same_reading (reading (scope_then before tr) (deciding p)) (reading (scope_now t tr) (deciding p)) ≡ true → Changes c t tr p k old r
 

@@ -1,34 +1,41 @@
 -- What the renderer answers: the whole tree, and the lean diff.
-use Rattle.std.specs.Prelude.{◌≡◌, ℕ, List, Result, Ok, Err}
+use Rattle.std.specs.Prelude.{◌≡◌, ℕ, List, Option, option_map, Result, Ok, Err}
 use Rattle.serde_json.specs.Data.{Data, object}
+use Rattle.text_core.specs.declared.by_key.KeyValue.{KeyValue}
 use Rattle.value_core.specs.Value.{Assigns, no_assigns}
+use Rattle.value_core.specs.View.{assigns_view}
 use Rattle.value_core.specs.declared.raise.Raise.{Raise}
+use Rattle.value_core.specs.declared.value.Value.{Value}
 use Rattle.ast_core.specs.Places.{cut, places_in}
 use Rattle.ast_core.specs.Syntax.{Nodes, Place}
+use Rattle.slot_compile.specs.Numbering.{node_at}
 use Rattle.slot_compile.specs.Template.{Source, syntax_of, IsPlain}
+use Rattle.expr_eval.specs.declared.variables.Variables.{Variables}
 use Rattle.diff_tree.specs.Tree.{node}
 use Rattle.diff_tree.specs.Spelling.{tree_json, change_json, changes_json}
-use Rattle.diff_tree.specs.Parts.{part_data, place_data}
+use Rattle.diff_tree.specs.Parts.{part_data, place_data, rows_seen}
 use Rattle.diff_tree.specs.declared.part.Part.{Part}
 use Rattle.diff_tree.specs.declared.part.PlaceValue.{PlaceValue}
-use Rattle.std.specs.Prelude.{Option, option_map}
-use Rattle.doc_model.specs.Environment.{Env}
+use Rattle.doc_model.specs.Environment.{Env, bind, inside}
 use Rattle.doc_model.specs.Evaluation.{Res}
-use Rattle.doc_model.specs.Scopes.{Site}
+use Rattle.doc_model.specs.Scopes.{Chosen, Site}
 use Rattle.doc_model.specs.FullRendering.{full_render}
 use Rattle.doc_model.specs.Process.{levels}
-use Rattle.doc_model.specs.Trace.{Items, Item}
-use Rattle.doc_model.specs.Tracing.{trace}
-use Rattle.doc_model.specs.Whole.{whole_place, whole_places}
+use Rattle.doc_model.specs.Trace.{Items, Item, ItemRows}
+use Rattle.doc_model.specs.Tracing.{trace, trace_place, trace_rows}
+use Rattle.doc_model.specs.Whole.{whole_place, whole_places, whole_rows}
 use Rattle.doc_model.specs.Lean.{lean_place, lean_places}
 use Rattle.assigns_track.specs.declared.tracked.Tracked.{Tracked}
+use Rattle.diff_render.specs.Answers.{Answers}
+use Rattle.diff_render.specs.declared.choice.Choice.{Choice}
 use Rattle.diff_render.specs.declared.fault.RenderFault.{RenderFault}
 use Rattle.diff_render.specs.declared.fault.RenderFault.TheVariants as fault
 use Rattle.diff_render.specs.declared.print.Print.{Print}
-use Rattle.diff_render.specs.Prints.{Remembers, RemembersAll, print_view, prints_view}
-use Rattle.diff_render.specs.Scope.{scope_of}
+use Rattle.diff_render.specs.Prints.{Prints, of_branch, Remembers, RemembersAll, RemembersRows, print_view, prints_view, rows_view}
+use Rattle.diff_render.specs.Scope.{AreScopes, alone, scope_in, scope_of}
+use Rattle.diff_render.specs.Taken.{IsChoice}
 use Rattle.diff_render.specs.Tracked.{HasSettled, present}
-use Rattle.diff_render.specs.Values.{changes_seen, option_seen, options_seen, trees_seen, values_seen}
+use Rattle.diff_render.specs.Values.{changes_seen, option_seen, options_seen, rows_in, trees_seen, values_seen}
 
 -- ---- a place and a node of a template, in a scope
 
@@ -58,9 +65,6 @@ pub record AreLean (template : Nodes) (env : Env) (ps : List Place) (before : It
   pub remembered : RemembersAll template env (prints_view r.1) ps
 
 -- the rows of a loop, with what is remembered of each
-abbrev pub rows_seen : List (List PlaceValue) → List (List Data)
-rows_seen rs = map values_seen rs
-
 pub record AreWholeRows (template : Nodes) (envs : List Env) (body : Nodes) (r : List (List PlaceValue) × List (List Print)) (rs : ItemRows) : Type 0 where
   pub rows : rows_seen r.0 ≡ rows_in (whole_rows rs)
   pub remembered : RemembersRows template envs (rows_view r.1) body

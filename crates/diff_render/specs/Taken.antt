@@ -1,10 +1,12 @@
 -- Which branch a place takes, and over which rows it goes.
-use Rattle.std.specs.Prelude.{◌≡◌, ℕ, List, [], Bool, true, false, Option, Some, None, Ok, if◌then◌else◌}
+use Rattle.std.specs.Prelude.{◌≡◌, ◌<◌, ℕ, List, [], ◌∷◌, drop, length, take, Bool, true, false, Option, Some, None, is_some, Ok, if◌then◌else◌}
 use Rattle.value_core.specs.Value.{Value, Assigns, no_assigns}
 use Rattle.value_core.specs.View.{assigns_view}
+use Rattle.ast_core.specs.PatternView.{pattern_view}
 use Rattle.ast_core.specs.Syntax.{Place, if_place, case_place, for_place, Nodes, no_nodes, node}
 use Rattle.slot_compile.specs.Numbering.{node_at}
-use Rattle.doc_model.specs.Environment.{Env}
+use Rattle.slot_compile.specs.declared.compiled.Branch.{Branch}
+use Rattle.doc_model.specs.Environment.{Env, binding}
 use Rattle.doc_model.specs.Evaluation.{Res, then_do, on_res, eval_expr, is_true}
 use Rattle.doc_model.specs.Calls.{items_of}
 use Rattle.doc_model.specs.Scopes.{Chosen, chosen, row_scopes}
@@ -50,3 +52,18 @@ abbrev pub IsTaken : Nodes → Option Choice → Option Chosen → Type 0
 IsTaken template (Some c) (Some d) = IsChoice template c d
 IsTaken template None None = Unit {0}
 IsTaken template _ _ = ⊥
+
+-- no pattern of these clauses matches a value
+abbrev pub NoneMatches : Value → List Branch → Type 0
+NoneMatches v [] = Unit {0}
+NoneMatches v (b ∷ bs) = (binding (pattern_view b.pattern) v ≡ None) × NoneMatches v bs
+
+-- the pattern of the first matches it
+abbrev pub FirstMatches : Value → List Branch → Type 0
+FirstMatches v [] = ⊥
+FirstMatches v (b ∷ bs) = is_some (binding (pattern_view b.pattern) v) ≡ true
+
+-- the number of the first clause that matches, if any
+abbrev pub IsFirst : Value → List Branch → Option ℕ → Type 0
+IsFirst v bs None = NoneMatches v bs
+IsFirst v bs (Some i) = (i < length bs) × NoneMatches v (take i bs) × FirstMatches v (drop i bs)

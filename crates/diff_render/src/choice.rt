@@ -1,13 +1,12 @@
 //! Which branch a place takes.
-ghost use Rattle.std.specs.Prelude.{◌≡◌, ◌<◌, ℕ, List, MatchOption, Ok, Err, is_some, length, map, true};
-ghost use Rattle.value_core.specs.View.{view, assigns_view};
-ghost use Rattle.value_core.specs.declared.raise.Raise.TheVariants.{NoClause};
+ghost use Rattle.std.specs.Prelude.{if◌then◌else◌, Some};
+ghost use Rattle.value_core.specs.View.{view};
 ghost use Rattle.ast_core.specs.Syntax.{Nodes};
-ghost use Rattle.slot_compile.specs.Numbering.{node_at, place_in, clauses_in};
+ghost use Rattle.slot_compile.specs.Numbering.{clauses_in, else_in, node_at, place_in};
 ghost use Rattle.doc_model.specs.Scopes.{chosen};
 ghost use Rattle.diff_render.specs.Answers.{Answers};
 ghost use Rattle.diff_render.specs.Scope.{scope_in};
-ghost use Rattle.diff_render.specs.Taken.{IsChoice, IsTaken, branch, or_else, taken};
+ghost use Rattle.diff_render.specs.Taken.{IsChoice, IsFirst, IsTaken, branch, or_else, taken};
 
 use crate::RenderFault;
 use crate::place::value_of;
@@ -58,7 +57,7 @@ pub(crate) fn choose(
 
 // One of two branches; none where the test fails and there is no else.
 fn branch(alloc: Global, test: bool, yes: usize, no: Option<usize>) -> Option<Choice>
-    ensures { (template : Nodes) → IsTaken template result (if test then Some (branch 0 (node_at template yes)) else or_else (else_at template no)) }
+    ensures { (template : Nodes) → IsTaken template result (if test then Some (branch 0 (node_at template yes)) else or_else (else_in template no)) }
 {
     if test {
         return Some(unbound(alloc, 0, yes));

@@ -2,7 +2,7 @@
 ghost use Rattle.std.specs.Prelude.{◌≡◌, IfOk, OnOk, option_map};
 ghost use Rattle.ast_core.specs.Places.{cut};
 ghost use Rattle.ast_core.specs.Syntax.{Nodes};
-ghost use Rattle.diff_tree.specs.Parts.{place_data};
+ghost use Rattle.diff_tree.specs.Parts.{place_data, rows_seen};
 ghost use Rattle.diff_tree.specs.Spelling.{change_json, tree_json};
 ghost use Rattle.diff_tree.specs.Tree.{Rows};
 ghost use Rattle.slot_compile.specs.Numbering.{node_at, place_in};
@@ -11,7 +11,7 @@ ghost use Rattle.doc_model.specs.Lean.{rows_change};
 ghost use Rattle.doc_model.specs.Whole.{rows_tree};
 ghost use Rattle.diff_render.specs.Again.{has_rows};
 ghost use Rattle.diff_render.specs.Answers.{Answers, Shows};
-ghost use Rattle.diff_render.specs.Renders.{GivesBranch, GivesNode, GivesPlace, GivesPlaces, GivesRows, rows_seen};
+ghost use Rattle.diff_render.specs.Renders.{GivesBranch, GivesNode, GivesPlace, GivesPlaces, GivesRow, GivesRows};
 ghost use Rattle.diff_render.specs.Scope.{scope_in};
 ghost use Rattle.diff_render.specs.Shown.{shown_at};
 ghost use Rattle.diff_render.specs.Values.{option_seen, rows_in};

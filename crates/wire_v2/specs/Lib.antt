@@ -1,5 +1,2 @@
 pub mod Message
 pub mod View
-pub mod FrameData
-pub mod FrameLaws
-pub mod FrameGrammar
