@@ -41,6 +41,11 @@ test_alike : {A : Type 0} (c : Bool) (x x' y y' : A) → x ≡ x' → y ≡ y' �
 test_alike true x x' y y' e k = e
 test_alike false x x' y y' e k = k
 
+matched_alike : {A : Type 0} (o : Option Assigns) (f g : Assigns → Res A) → ((as' : Assigns) → f as' ≡ g as')
+    → ◌≡◌ {A = Res A} (elim o [ None ↦ Err NoClause | Some as' ↦ f as' ]) (elim o [ None ↦ Err NoClause | Some as' ↦ g as' ])
+matched_alike None f g h = refl
+matched_alike (Some as') f g h = h as'
+
 -- the stream and the component of a name
 stream_alike : (a b : Env) (s : List ℕ) → a.streams ≡ b.streams → stream_of a s ≡ stream_of b s
 stream_alike a b s e = ap (λ o. elim o [ None ↦ Err NoAssign | Some f ↦ Ok (f s) ]) e
@@ -161,12 +166,9 @@ module _ (site : Site) (go : Deeper Items) (h : Alike go) where
       (ap (on_res (met_branch 0 (cut ms))) (h a b ms k s c)) (else_alike ns a b l s c)
 
   pub slot_alike : (a b : Env) (v : Value) (d : Captured) → a.components ≡ b.components → trace_slot site go a v d ≡ trace_slot site go b v d
-  slot_alike a b v d c = at_slot (binding (site.body d.number).pattern v)
-    where
-      at_slot : (o : Option Assigns)
-          → elim o [ None ↦ Err NoClause | Some as' ↦ go (slot_scope a d as') (site.body d.number).nodes ] ≡ elim o [ None ↦ Err NoClause | Some as' ↦ go (slot_scope b d as') (site.body d.number).nodes ]
-      at_slot None = refl
-      at_slot (Some as') = slot_scope_alike go h d as' (site.body d.number).nodes a b c
+  slot_alike a b v d c =
+      matched_alike (binding (site.body d.number).pattern v) (λ as'. go (slot_scope a d as') (site.body d.number).nodes) (λ as'. go (slot_scope b d as') (site.body d.number).nodes)
+      (λ as'. slot_scope_alike go h d as' (site.body d.number).nodes a b c)
 
   pub slots_alike : (ds : List Captured) (a b : Env) (v : Value) → a.components ≡ b.components → trace_slots site go a v ds ≡ trace_slots site go b v ds
   slots_alike [] a b v c = refl
@@ -209,14 +211,14 @@ module _ (site : Site) (go : Deeper Items) (h : Alike go) where
       (λ m. ap (on_res (met_stream st m.shown (operations x p m) (cut body)))
       (trace_each go body (x ∷ bound p) (insert_contents (matched x p m.waiting.inserts)) (stream_row a) (stream_row b) (inserts_bind x p m.waiting.inserts) (λ as' q. stream_row_alike go h as' (x ∷ bound p) body a b q k)))
 
-  places_alike : (ps : List Place) (a b : Env) → AgreeAt a b ps → a.streams ≡ b.streams → a.components ≡ b.components → trace_places site go a ps ≡ trace_places site go b ps
-  places_alike [] a b k s c = refl
-  places_alike (p ∷ ps) a b k s c =
-      both_alike item (trace_place site go a p) (trace_place site go b p) (trace_places site go a ps) (trace_places site go b ps) (trace_place_alike p a b k.0 s c) (places_alike ps a b k.1 s c)
+  pub trace_places_alike : (ps : List Place) (a b : Env) → AgreeAt a b ps → a.streams ≡ b.streams → a.components ≡ b.components → trace_places site go a ps ≡ trace_places site go b ps
+  trace_places_alike [] a b k s c = refl
+  trace_places_alike (p ∷ ps) a b k s c =
+      both_alike item (trace_place site go a p) (trace_place site go b p) (trace_places site go a ps) (trace_places site go b ps) (trace_place_alike p a b k.0 s c) (trace_places_alike ps a b k.1 s c)
 
 pub trace_alike : (site : Site) (k : ℕ) → Alike (trace site k)
 trace_alike site zero a b ns h s c = refl
-trace_alike site (suc k) a b ns h s c = places_alike site (trace site k) (trace_alike site k) (places_in ns) a b (at_nodes a b ns h) s c
+trace_alike site (suc k) a b ns h s c = trace_places_alike site (trace site k) (trace_alike site k) (places_in ns) a b (at_nodes a b ns h) s c
 
 -- the same of the full rendering
 full_each : (go : Deeper (List ℕ)) (body : Nodes) (xs : List (List ℕ)) (ls : List Assigns) (f g : Assigns → Env) → AllBind xs ls → ((as' : Assigns) → keys as' ≡ xs → go (f as') body ≡ go (g as') body)
@@ -238,12 +240,9 @@ module _ (site : Site) (go : Deeper (List ℕ)) (h : Alike go) where
   full_else_alike (node n ns) a b k s c = h a b (node n ns) k s c
 
   full_slot_alike : (a b : Env) (v : Value) (d : Captured) → a.components ≡ b.components → full_slot site go a v d ≡ full_slot site go b v d
-  full_slot_alike a b v d c = at_slot (binding (site.body d.number).pattern v)
-    where
-      at_slot : (o : Option Assigns)
-          → elim o [ None ↦ Err NoClause | Some as' ↦ go (slot_scope a d as') (site.body d.number).nodes ] ≡ elim o [ None ↦ Err NoClause | Some as' ↦ go (slot_scope b d as') (site.body d.number).nodes ]
-      at_slot None = refl
-      at_slot (Some as') = slot_scope_alike go h d as' (site.body d.number).nodes a b c
+  full_slot_alike a b v d c =
+      matched_alike (binding (site.body d.number).pattern v) (λ as'. go (slot_scope a d as') (site.body d.number).nodes) (λ as'. go (slot_scope b d as') (site.body d.number).nodes)
+      (λ as'. slot_scope_alike go h d as' (site.body d.number).nodes a b c)
 
   full_slots_alike : (ds : List Captured) (a b : Env) (v : Value) → a.components ≡ b.components → full_slots site go a v ds ≡ full_slots site go b v ds
   full_slots_alike [] a b v c = refl
