@@ -1,0 +1,10 @@
+pub mod Branches
+pub mod Entering
+pub mod Kept
+pub mod Passing
+pub mod Progress
+pub mod Puts
+pub mod Recalls
+pub mod Same
+pub mod Sent
+pub mod Takes
