@@ -42,27 +42,27 @@ before_entered [] (r ∷ ss) o s h = cc
 before_entered (p ∷ os) [] o s h = cc
 
 -- a scope of a page that is rendered again
-pub record Entered (outer inner : Tracking) (bound : List (KeyValue Value)) (note : Option (List (KeyValue Value))) : Type 0 where
+pub record Entered (outer inner : Tracking) (bound : List (KeyValue Value)) (noted_as : Option (List (KeyValue Value))) : Type 0 where
   pub variables : inner.variables.scopes ≡ outer.variables.scopes ++ bound ∷ []
-  pub before : inner.before ≡ outer.before ++ note ∷ []
+  pub before : inner.before ≡ outer.before ++ noted_as ∷ []
 
-pub now_entered : (t : Tracked) (outer inner : Tracking) (bound : List (KeyValue Value)) (note : Option (List (KeyValue Value))) → Entered outer inner bound note
+pub now_entered : (t : Tracked) (outer inner : Tracking) (bound : List (KeyValue Value)) (noted_as : Option (List (KeyValue Value))) → Entered outer inner bound noted_as
     → scope_now t inner ≡ bind (assigns_view bound) (scope_now t outer)
-now_entered t outer inner bound note h = ap (scope_of (present t)) (ap variables_view h.variables ∙ entered outer.variables.scopes bound)
+now_entered t outer inner bound noted_as h = ap (scope_of (present t)) (ap variables_view h.variables ∙ entered outer.variables.scopes bound)
 
-pub then_entered : (before : Assigns) (outer inner : Tracking) (bound : List (KeyValue Value)) (note : Option (List (KeyValue Value))) → Entered outer inner bound note → IsNoted outer
-    → scope_then before inner ≡ bind (assigns_view (bound_before note bound)) (scope_then before outer)
-then_entered before outer inner bound note h noted =
+pub then_entered : (before : Assigns) (outer inner : Tracking) (bound : List (KeyValue Value)) (noted_as : Option (List (KeyValue Value))) → Entered outer inner bound noted_as → IsNoted outer
+    → scope_then before inner ≡ bind (assigns_view (bound_before noted_as bound)) (scope_then before outer)
+then_entered before outer inner bound noted_as h noted =
     ap (scope_of before)
     (ap (λ os. variables_view (scopes_before os inner.variables.scopes)) h.before
-    ∙ ap (λ ss. variables_view (scopes_before (outer.before ++ note ∷ []) ss)) h.variables
-    ∙ ap variables_view (before_entered outer.before outer.variables.scopes note bound noted)
-    ∙ entered (scopes_before outer.before outer.variables.scopes) (bound_before note bound))
+    ∙ ap (λ ss. variables_view (scopes_before (outer.before ++ noted_as ∷ []) ss)) h.variables
+    ∙ ap variables_view (before_entered outer.before outer.variables.scopes noted_as bound noted)
+    ∙ entered (scopes_before outer.before outer.variables.scopes) (bound_before noted_as bound))
 
 one_longer : {A : Type 0} (xs : List A) (x : A) → length (xs ++ x ∷ []) ≡ suc (length xs)
 one_longer [] x = refl
 one_longer (y ∷ xs) x = ap suc (one_longer xs x)
 
-pub noted_entered : (outer inner : Tracking) (bound : List (KeyValue Value)) (note : Option (List (KeyValue Value))) → Entered outer inner bound note → IsNoted outer → IsNoted inner
-noted_entered outer inner bound note h noted =
-    ap length h.before ∙ one_longer outer.before note ∙ ap suc noted ∙ sym (one_longer outer.variables.scopes bound) ∙ sym (ap length h.variables)
+pub noted_entered : (outer inner : Tracking) (bound : List (KeyValue Value)) (noted_as : Option (List (KeyValue Value))) → Entered outer inner bound noted_as → IsNoted outer → IsNoted inner
+noted_entered outer inner bound noted_as h noted =
+    ap length h.before ∙ one_longer outer.before noted_as ∙ ap suc noted ∙ sym (one_longer outer.variables.scopes bound) ∙ sym (ap length h.variables)

@@ -1,5 +1,5 @@
 -- A node that is rendered again, place by place.
-use Rattle.std.proofs.Common.{◌≡◌, ℕ, zero, suc, ◌-◌, List, [], ◌∷◌, ◌++◌, map, Ok, Err, Option, Some, None, option_map, refl, sym, ap, ◌∙◌, subst}
+use Rattle.std.proofs.Common.{◌≡◌, ℕ, zero, suc, ◌-◌, List, [], ◌∷◌, ◌++◌, map, Ok, Err, Option, Some, None, option_map, refl, sym, ap, ◌∙◌, arith}
 use Rattle.serde_json.specs.Data.{Data}
 use Rattle.value_core.specs.declared.raise.Raise.{Raise}
 use Rattle.ast_core.specs.Places.{places_in}
@@ -21,7 +21,7 @@ use Rattle.diff_render.proofs.Progress.{Progress, Whole, begun, ended, further, 
 -- one level down
 pub below : (k : ℕ) (env : Env) (ns : Nodes) → (k ≡ 0 → ⊥) → trace alone k env ns ≡ trace_places alone (trace alone (k - 1)) env (places_in ns)
 below zero env ns h = absurd (h refl)
-below (suc k) env ns h = refl
+below (suc k) env ns h = ap (λ j. trace_places alone (trace alone j) env (places_in ns)) (let e : k ≡ suc k - 1 = omega arith in e)
 
 -- a print behind others
 pub prints_more : (qs : List Stored) (q : Stored) → prints_view (qs ++ q ∷ []) ≡ join (prints_view qs) (print (print_view q) no_prints)

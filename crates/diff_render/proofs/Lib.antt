@@ -2,6 +2,7 @@ pub mod Branches
 pub mod Entering
 pub mod Kept
 pub mod Passing
+pub mod Plains
 pub mod Progress
 pub mod Puts
 pub mod Recalls

@@ -11,8 +11,8 @@ use Rattle.diff_tree.specs.declared.part.PlaceValue.{PlaceValue}
 use Rattle.diff_tree.specs.declared.part.Part.{Part}
 use Rattle.diff_tree.specs.declared.part.PlaceValue.TheVariants.{Text, rolls-Text, Node, rolls-Node}
 use Rattle.diff_tree.specs.Parts.{body_step, part_data, place_data, places_json, seen, place_step, part_step}
-use Rattle.diff_tree.specs.declared.part.PlaceValue.TheOpen.{PlaceValue-F}
-use Rattle.diff_tree.specs.declared.part.PlaceValue.TheFolds.{fold-roll-PlaceValue}
+use Rattle.diff_tree.specs.declared.part.PartBody.TheOpen.{PlaceValue-F}
+use Rattle.diff_tree.specs.declared.part.PartBody.TheFolds.{fold-roll-PlaceValue}
 
 abbrev pub order : List ℕ → List ℕ → Ordering
 order = slice_cmp nat_cmp

@@ -27,20 +27,18 @@ pub items_alike : (p : Pattern) (e : Expr) (body : Nodes) (a b : Env) → Agree 
 items_alike p e body a b k = ap (λ r. then_do r items_of) (eval_agrees e a b (agree_left a b (free_names e) (without (bound p) (free_nodes body)) k))
 
 module _ (t : Nodes) where
+  none_alike : (rs : RowPrints) (body : Nodes) → RemembersRows t [] rs body → RemembersRows t [] rs body
+  none_alike rs body h = h
+
   mutual
     pub remembers_alike : (q : Print) (p : Place) (a b : Env) → Agree a b (free_place p) → Remembers t a q p → Remembers t b q p
     remembers_alike of_text p a b k h = (h.0, sym (taken_alike p a b (deciding_read p a b k)) ∙ h.1)
     remembers_alike (of_branch c qs) p a b k h =
         (h.0, sym (taken_alike p a b (deciding_read p a b k)) ∙ h.1, h.2, all_alike qs (places_in h.0.nodes) (bind h.0.variables a) (bind h.0.variables b) (at_nodes (bind h.0.variables a) (bind h.0.variables b) h.0.nodes (taken_agrees p a b k h.0 h.1)) h.3)
-    remembers_alike (of_rows rs) (for_place p e body) a b k h = with_items (over_items a p e body h.1 h.2)
-      where
-        with_items : (vs : Values) × (then_do (eval_expr a e) items_of ≡ Ok vs) × (h.1 ≡ row_scopes a p vs) → Remembers t b (of_rows rs) (for_place p e body)
-        with_items s = (
-          refl,
-          row_scopes b p s.0,
-          ap (on_res (row_scopes b p)) (sym (items_alike p e body a b k) ∙ s.1),
-          rows_alike rs s.0 p body a b (agree_right a b (free_names e) (without (bound p) (free_nodes body)) k) (subst (λ envs. RemembersRows t envs rs body) s.2 h.3),
-        )
+    remembers_alike (of_rows rs) (for_place p e body) a b k h =
+        let s = over_items a p e body h.1 h.2 in
+        (refl, row_scopes b p s.0, ap (on_res (row_scopes b p)) (sym (items_alike p e body a b k) ∙ s.1),
+        rows_alike rs s.0 p body a b (agree_right a b (free_names e) (without (bound p) (free_nodes body)) k) (subst (λ envs. RemembersRows t envs rs body) s.2 h.3))
     remembers_alike (of_rows rs) _ a b k h = absurd (true≢false (sym h.0))
 
     pub all_alike : (qs : Prints) (ps : List Place) (a b : Env) → AgreeAt a b ps → RemembersAll t a qs ps → RemembersAll t b qs ps
@@ -50,19 +48,16 @@ module _ (t : Nodes) where
     all_alike (print q qs) [] a b k h = h
 
     rows_alike : (rs : RowPrints) (vs : Values) (p : Pattern) (body : Nodes) (a b : Env) → Agree a b (without (bound p) (free_nodes body)) → RemembersRows t (row_scopes a p vs) rs body → RemembersRows t (row_scopes b p vs) rs body
-    rows_alike rs no_values p body a b k h = none rs h
-      where
-        none : (ss : RowPrints) → RemembersRows t [] ss body → RemembersRows t [] ss body
-        none ss g = g
-    rows_alike rs (value v vs) p body a b k h = at_row (binding p v) (binds p v) rs h
-      where
-        at_row : (o : Option Assigns) → Binds (bound p) o → (ss : RowPrints)
-            → RemembersRows t (map (λ as'. inside as' a) (elim o [ None ↦ bindings p vs | Some as' ↦ as' ∷ bindings p vs ])) ss body
-            → RemembersRows t (map (λ as'. inside as' b) (elim o [ None ↦ bindings p vs | Some as' ↦ as' ∷ bindings p vs ])) ss body
-        at_row None e ss g = rows_alike ss vs p body a b k g
-        at_row (Some as') e no_row_prints g = g
-        at_row (Some as') e (row_prints qs ss) g = (
-          all_alike qs (places_in body) (inside as' a) (inside as' b)
-              (at_nodes (inside as' a) (inside as' b) body (agree_cast (bind as' a) (bind as' b) (inside as' a) (inside as' b) (free_nodes body) refl refl refl refl (agree_bound a b as' (bound p) (free_nodes body) e k))) g.0,
-          rows_alike ss vs p body a b k g.1,
-        )
+    rows_alike rs no_values p body a b k h = none_alike rs body h
+    rows_alike rs (value v vs) p body a b k h = row_alike p (binding p v) (binds p v) rs vs body a b k h
+
+    row_alike : (p : Pattern) (o : Option Assigns) → Binds (bound p) o → (rs : RowPrints) (vs : Values) (body : Nodes) (a b : Env) → Agree a b (without (bound p) (free_nodes body))
+        → RemembersRows t (map (λ as'. inside as' a) (elim o [ None ↦ bindings p vs | Some as' ↦ as' ∷ bindings p vs ])) rs body
+        → RemembersRows t (map (λ as'. inside as' b) (elim o [ None ↦ bindings p vs | Some as' ↦ as' ∷ bindings p vs ])) rs body
+    row_alike p None x rs vs body a b k h = rows_alike rs vs p body a b k h
+    row_alike p (Some as') x no_row_prints vs body a b k h = h
+    row_alike p (Some as') x (row_prints qs rs) vs body a b k h = (
+      all_alike qs (places_in body) (inside as' a) (inside as' b)
+          (at_nodes (inside as' a) (inside as' b) body (agree_cast (bind as' a) (bind as' b) (inside as' a) (inside as' b) (free_nodes body) refl refl refl refl (agree_bound a b as' (bound p) (free_nodes body) x k))) h.0,
+      rows_alike rs vs p body a b k h.1,
+    )

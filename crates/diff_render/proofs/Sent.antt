@@ -103,5 +103,5 @@ empty_inner cs h = ap (λ b. option_map change_json (if b then None else Some (i
 
 pub some_inner : (cs : Changes) (p : Part) (es : List (KeyValue PlaceValue)) → is_empty cs ≡ false → part_data p ≡ node_data None es → places_json (seen es) ≡ changes_json 0 cs
     → Some (place_data (Node p)) ≡ option_map change_json (unless_empty cs)
-some_inner cs p es h data members =
-    ap Some (node_seen p ∙ data ∙ ap object members) ∙ ap (λ b. option_map change_json (if b then None else Some (inner cs))) (sym h)
+some_inner cs p es h made members =
+    ap Some (node_seen p ∙ made ∙ ap object members) ∙ ap (λ b. option_map change_json (if b then None else Some (inner cs))) (sym h)

@@ -51,7 +51,7 @@ pub record AreWhole (template : Nodes) (env : Env) (ps : List Place) (r : List P
 
 -- a node, with its statics
 pub record IsWholeNode (template : Nodes) (env : Env) (ns : Nodes) (r : Part × List Print) (is : Items) : Type 0 where
-  pub data : part_data r.0 ≡ tree_json (node (cut ns) (whole_places is))
+  pub json : part_data r.0 ≡ tree_json (node (cut ns) (whole_places is))
   pub remembered : RemembersAll template env (prints_view r.1) (places_in ns)
 
 -- what is sent of a place against what it met before, and what is remembered of it
@@ -124,7 +124,7 @@ Recalls c as' ps = RemembersAll (syntax_of c) (scope_of as' no_assigns) (prints_
 pub record Sends (source : Source) (as' : Assigns) (json : Items → Data) (r : Part × List Print) : Type 0 where
   pub items : Items
   pub met : Meets source as' (Ok items)
-  pub data : part_data r.0 ≡ json items
+  pub sent : part_data r.0 ≡ json items
   pub remembered : Recalls source as' r.1
 
 -- an answer: what is sent of what the rendering meets, or a raise where it raises; want of memory is free

@@ -77,7 +77,7 @@ impl<'a> Lean<'a> {
         print: Print,
         levels: usize,
     ) -> Result<Change, RenderFault>
-        requires { ReadsRight (syntax_of self.entry.compiled.now) dynamic.now }
+        requires { ReadsRight (syntax_of self.compiled.now) dynamic.now }
         ensures change { GivesChange self.entry.compiled.now self.entry.assigns.now tracking.old (place_in (syntax_of self.entry.compiled.now) dynamic.now) print levels result }
         ensures scope { OnOk result (tracking.new ≡ tracking.old) }
     {
@@ -249,7 +249,7 @@ impl<'a> Lean<'a> {
 
     // Whether a place is evaluated again.
     fn is_changed(self, tracking: &Tracking, dynamic: &Dynamic) -> bool
-        requires { ReadsRight (syntax_of self.entry.compiled.now) dynamic.now }
+        requires { ReadsRight (syntax_of self.compiled.now) dynamic.now }
         ensures { AreChanged self.entry.assigns.now tracking.now (deciding (place_in (syntax_of self.entry.compiled.now) dynamic.now)) result }
     {
         match dynamic {
