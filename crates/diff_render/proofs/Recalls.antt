@@ -3,7 +3,7 @@ use Rattle.std.proofs.Common.{◌≡◌, ℕ, List, [], ◌∷◌, ◌++◌, map
 use Rattle.value_core.specs.Value.{Value, Values, no_values, value, Assigns}
 use Rattle.ast_core.specs.Free.{without, bound, free_names, free_nodes, free_place}
 use Rattle.ast_core.specs.Places.{places_in}
-use Rattle.ast_core.specs.Syntax.{Expr, Pattern, Place, for_place, Nodes}
+use Rattle.ast_core.specs.Syntax.{Name, Expr, Pattern, Place, for_place, Nodes}
 use Rattle.doc_model.specs.Calls.{items_of}
 use Rattle.doc_model.specs.Environment.{Env, bind, binding, bindings, inside}
 use Rattle.doc_model.specs.Evaluation.{Res, then_do, on_res, eval_expr}
@@ -26,19 +26,31 @@ over_items env p e body envs h = by (then_do (eval_expr env e) items_of) refl h
 pub items_alike : (p : Pattern) (e : Expr) (body : Nodes) (a b : Env) → Agree a b (free_place (for_place p e body)) → then_do (eval_expr a e) items_of ≡ then_do (eval_expr b e) items_of
 items_alike p e body a b k = ap (λ r. then_do r items_of) (eval_agrees e a b (agree_left a b (free_names e) (without (bound p) (free_nodes body)) k))
 
-module _ (t : Nodes) where
-  none_alike : (rs : RowPrints) (body : Nodes) → RemembersRows t [] rs body → RemembersRows t [] rs body
-  none_alike rs body h = h
+-- scopes that agree on names, one by one
+abbrev AgreeRows : List Env → List Env → List Name → Type 0
+AgreeRows [] [] ns = Unit {0}
+AgreeRows (a ∷ as') (b ∷ bs) ns = Agree a b ns × AgreeRows as' bs ns
+AgreeRows _ _ ns = ⊥
 
+rows_agree : (vs : Values) (p : Pattern) (ns : List Name) (a b : Env) → Agree a b (without (bound p) ns) → AgreeRows (row_scopes a p vs) (row_scopes b p vs) ns
+rows_agree no_values p ns a b k = tt
+rows_agree (value v vs) p ns a b k = by (binding p v) (binds p v) (rows_agree vs p ns a b k)
+  where
+    by : (o : Option Assigns) → Binds (bound p) o → AgreeRows (row_scopes a p vs) (row_scopes b p vs) ns
+        → AgreeRows (map (λ as'. inside as' a) (elim o [ None ↦ bindings p vs | Some as' ↦ as' ∷ bindings p vs ])) (map (λ as'. inside as' b) (elim o [ None ↦ bindings p vs | Some as' ↦ as' ∷ bindings p vs ])) ns
+    by None x rest = rest
+    by (Some as') x rest = (agree_cast (bind as' a) (bind as' b) (inside as' a) (inside as' b) ns refl refl refl refl (agree_bound a b as' (bound p) ns x k), rest)
+
+module _ (t : Nodes) where
   mutual
     pub remembers_alike : (q : Print) (p : Place) (a b : Env) → Agree a b (free_place p) → Remembers t a q p → Remembers t b q p
     remembers_alike of_text p a b k h = (h.0, sym (taken_alike p a b (deciding_read p a b k)) ∙ h.1)
     remembers_alike (of_branch c qs) p a b k h =
         (h.0, sym (taken_alike p a b (deciding_read p a b k)) ∙ h.1, h.2, all_alike qs (places_in h.0.nodes) (bind h.0.variables a) (bind h.0.variables b) (at_nodes (bind h.0.variables a) (bind h.0.variables b) h.0.nodes (taken_agrees p a b k h.0 h.1)) h.3)
     remembers_alike (of_rows rs) (for_place p e body) a b k h =
-        let s = over_items a p e body h.1 h.2 in
-        (refl, row_scopes b p s.0, ap (on_res (row_scopes b p)) (sym (items_alike p e body a b k) ∙ s.1),
-        rows_alike rs s.0 p body a b (agree_right a b (free_names e) (without (bound p) (free_nodes body)) k) (subst (λ envs. RemembersRows t envs rs body) s.2 h.3))
+        let s = over_items a p e body h.1.0 h.1.1 in
+        (refl, (row_scopes b p s.0, ap (on_res (row_scopes b p)) (sym (items_alike p e body a b k) ∙ s.1),
+        rows_alike rs (row_scopes a p s.0) (row_scopes b p s.0) body (rows_agree s.0 p (free_nodes body) a b (agree_right a b (free_names e) (without (bound p) (free_nodes body)) k)) (subst (λ envs. RemembersRows t envs rs body) s.2 h.1.2)))
     remembers_alike (of_rows rs) _ a b k h = absurd (true≢false (sym h.0))
 
     pub all_alike : (qs : Prints) (ps : List Place) (a b : Env) → AgreeAt a b ps → RemembersAll t a qs ps → RemembersAll t b qs ps
@@ -47,17 +59,10 @@ module _ (t : Nodes) where
     all_alike no_prints (p ∷ ps) a b k h = h
     all_alike (print q qs) [] a b k h = h
 
-    rows_alike : (rs : RowPrints) (vs : Values) (p : Pattern) (body : Nodes) (a b : Env) → Agree a b (without (bound p) (free_nodes body)) → RemembersRows t (row_scopes a p vs) rs body → RemembersRows t (row_scopes b p vs) rs body
-    rows_alike rs no_values p body a b k h = none_alike rs body h
-    rows_alike rs (value v vs) p body a b k h = row_alike p (binding p v) (binds p v) rs vs body a b k h
-
-    row_alike : (p : Pattern) (o : Option Assigns) → Binds (bound p) o → (rs : RowPrints) (vs : Values) (body : Nodes) (a b : Env) → Agree a b (without (bound p) (free_nodes body))
-        → RemembersRows t (map (λ as'. inside as' a) (elim o [ None ↦ bindings p vs | Some as' ↦ as' ∷ bindings p vs ])) rs body
-        → RemembersRows t (map (λ as'. inside as' b) (elim o [ None ↦ bindings p vs | Some as' ↦ as' ∷ bindings p vs ])) rs body
-    row_alike p None x rs vs body a b k h = rows_alike rs vs p body a b k h
-    row_alike p (Some as') x no_row_prints vs body a b k h = h
-    row_alike p (Some as') x (row_prints qs rs) vs body a b k h = (
-      all_alike qs (places_in body) (inside as' a) (inside as' b)
-          (at_nodes (inside as' a) (inside as' b) body (agree_cast (bind as' a) (bind as' b) (inside as' a) (inside as' b) (free_nodes body) refl refl refl refl (agree_bound a b as' (bound p) (free_nodes body) x k))) h.0,
-      rows_alike rs vs p body a b k h.1,
-    )
+    rows_alike : (rs : RowPrints) (as' bs : List Env) (body : Nodes) → AgreeRows as' bs (free_nodes body) → RemembersRows t as' rs body → RemembersRows t bs rs body
+    rows_alike no_row_prints [] [] body k h = tt
+    rows_alike (row_prints qs rs) (a ∷ as') (b ∷ bs) body k h = (all_alike qs (places_in body) a b (at_nodes a b body k.0) h.0, rows_alike rs as' bs body k.1 h.1)
+    rows_alike no_row_prints (a ∷ as') bs body k h = absurd h
+    rows_alike no_row_prints [] (b ∷ bs) body k h = absurd k
+    rows_alike (row_prints qs rs) [] bs body k h = absurd h
+    rows_alike (row_prints qs rs) (a ∷ as') [] body k h = absurd k
