@@ -1,6 +1,8 @@
 pub mod Branches
 pub mod Entering
+pub mod Firsts
 pub mod Kept
+pub mod Numbered
 pub mod Passing
 pub mod Plains
 pub mod Progress
