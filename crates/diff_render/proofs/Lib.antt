@@ -1,7 +1,9 @@
 pub mod Branches
+pub mod Changed
 pub mod Entering
 pub mod Firsts
 pub mod Kept
+pub mod Looped
 pub mod Numbered
 pub mod Passing
 pub mod Plains
