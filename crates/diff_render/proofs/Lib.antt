@@ -1,5 +1,7 @@
+pub mod Before
 pub mod Branches
 pub mod Changed
+pub mod Empty
 pub mod Entering
 pub mod Firsts
 pub mod Kept
