@@ -1,7 +1,11 @@
+pub mod Before
 pub mod Branches
+pub mod Changed
+pub mod Empty
 pub mod Entering
 pub mod Firsts
 pub mod Kept
+pub mod Looped
 pub mod Numbered
 pub mod Passing
 pub mod Plains

@@ -2,7 +2,7 @@
 ghost use Rattle.std.specs.Prelude.{if◌then◌else◌, Some};
 ghost use Rattle.value_core.specs.View.{view};
 ghost use Rattle.ast_core.specs.Syntax.{Nodes};
-ghost use Rattle.slot_compile.specs.Numbering.{clauses_in, else_in, node_at, place_in};
+ghost use Rattle.slot_compile.specs.Numbering.{ElseStands, ReadsRight, clauses_in, else_in, node_at, place_in};
 ghost use Rattle.doc_model.specs.Scopes.{chosen};
 ghost use Rattle.diff_render.specs.Answers.{Answers};
 ghost use Rattle.diff_render.specs.Scope.{scope_in};
@@ -32,7 +32,7 @@ pub(crate) fn choose(
     variables: &Variables,
     dynamic: &Dynamic,
 ) -> Result<Option<Choice>, RenderFault>
-    ensures { (template : Nodes) → Answers (IsTaken template) result (taken (scope_in assigns.now variables.now) (place_in template dynamic.now)) }
+    ensures { (template : Nodes) → ReadsRight template dynamic.now → Answers (IsTaken template) result (taken (scope_in assigns.now variables.now) (place_in template dynamic.now)) }
 {
     match dynamic {
         Dynamic::If { test, yes, no } => {
@@ -57,12 +57,15 @@ pub(crate) fn choose(
 
 // One of two branches; none where the test fails and there is no else.
 fn branch(alloc: Global, test: bool, yes: usize, no: Option<usize>) -> Option<Choice>
-    ensures { (template : Nodes) → IsTaken template result (if test then Some (branch 0 (node_at template yes)) else or_else (else_in template no)) }
+    ensures { (template : Nodes) → ElseStands template no → IsTaken template result (if test then Some (branch 0 (node_at template yes)) else or_else (else_in template no)) }
 {
     if test {
         return Some(unbound(alloc, 0, yes));
     }
-    no.map(|body| unbound(alloc, 1, body))
+    match no {
+        Some(body) => Some(unbound(alloc, 1, body)),
+        None => None,
+    }
 }
 
 // A branch that binds nothing.
