@@ -105,3 +105,8 @@ pub some_inner : (cs : Changes) (p : Part) (es : List (KeyValue PlaceValue)) →
     → Some (place_data (Node p)) ≡ option_map change_json (unless_empty cs)
 some_inner cs p es h made members =
     ap Some (node_seen p ∙ made ∙ ap object members) ∙ ap (λ b. option_map change_json (if b then None else Some (inner cs))) (sym h)
+
+-- a test that tells of no rows
+pub rows_left : {A : Type 0} (b : Bool) (xs : List A) → (IsTrue b ↔ (xs ≡ [])) → b ≡ false → xs ≡ [] → ⊥
+rows_left true xs h e k = true≢false e
+rows_left false xs h e k = true≢false (sym (h.1 k))
