@@ -1,6 +1,7 @@
 pub mod Before
 pub mod Branches
 pub mod Changed
+pub mod Deciding
 pub mod Empty
 pub mod Entering
 pub mod Firsts
