@@ -1,6 +1,6 @@
 -- What the scopes bound before.
 use Rattle.std.proofs.lemmas.List.{take_all}
-use Rattle.std.proofs.Common.{◌≡◌, ◌<◌, ◌≤◌, ◌-◌, min, ℕ, zero, suc, List, [], ◌∷◌, length, get_or, take, Option, option_map, refl, sym, ap, ◌∙◌, arith}
+use Rattle.std.proofs.Common.{◌≡◌, ◌<◌, ◌≤◌, ◌-◌, min, ℕ, zero, suc, List, [], ◌∷◌, length, get_or, take, Option, option_map, ap, ◌∙◌, arith}
 use Rattle.text_core.specs.declared.by_key.KeyValue.{KeyValue}
 use Rattle.text_core.specs.Keyed as keyed
 use Rattle.value_core.specs.View.{view}

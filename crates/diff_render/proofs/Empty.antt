@@ -1,5 +1,5 @@
 -- Rows and changes that are there, or not.
-use Rattle.std.proofs.Common.{◌≡◌, ◌↔◌, IsTrue, List, [], ◌∷◌, map, Option, Some, None, option_map, Bool, true, false, not, refl, sym, ap, ◌∙◌}
+use Rattle.std.proofs.Common.{◌≡◌, ◌↔◌, IsTrue, List, [], ◌∷◌, map, Some, None, option_map, Bool, true, false, not, refl, sym, ap, ◌∙◌}
 use Rattle.text_core.specs.declared.by_key.KeyValue.{KeyValue}
 use Rattle.diff_tree.specs.Parts.{node_data, part_data, place_data, places_json, seen}
 use Rattle.diff_tree.specs.Spelling.{change_json, changes_json}

@@ -1,5 +1,5 @@
 -- The first clause that matches, and the branch that it is.
-use Rattle.std.proofs.Common.{◌≡◌, ◌<◌, ℕ, suc, ◌+◌, List, [], ◌∷◌, ◌++◌, length, take, drop, get_or, Option, Some, None, is_some, Bool, true, false, Ok, Err, refl, sym, ap, ◌∙◌, subst, true≢false, arith, if◌then◌else◌}
+use Rattle.std.proofs.Common.{◌≡◌, ◌<◌, ℕ, suc, ◌+◌, List, [], ◌∷◌, ◌++◌, length, take, drop, get_or, Option, Some, None, is_some, Bool, false, Ok, Err, refl, sym, ap, ◌∙◌, subst, true≢false, arith, if◌then◌else◌}
 use Rattle.std.proofs.lemmas.List.{length-take-le, take-append-drop, take_more}
 use Rattle.value_core.specs.Value.{Value, Assigns}
 use Rattle.value_core.specs.declared.raise.Raise.TheVariants.{NoClause}
@@ -15,7 +15,7 @@ use Rattle.diff_tree.proofs.Order.{cons_at}
 use Rattle.doc_model.specs.Environment.{Env, binding}
 use Rattle.doc_model.specs.Evaluation.{Res, then_do, on_res, eval_expr, is_true}
 use Rattle.doc_model.specs.Scopes.{Chosen, chosen, later}
-use Rattle.diff_render.specs.Taken.{FirstMatches, IsChoice, IsTaken, NoneMatches, branch, or_else, taken}
+use Rattle.diff_render.specs.Taken.{IsChoice, IsTaken, NoneMatches, branch, or_else, taken}
 use Rattle.diff_render.specs.declared.choice.Choice.{Choice}
 
 unbound : {X : Type 0} (o : Option X) → is_some o ≡ false → o ≡ None
@@ -31,13 +31,6 @@ pub none_more : (v : Value) (bs : List Branch) (i : ℕ) (b : Branch) → i < le
     → NoneMatches v (take (i + 1) bs)
 none_more v bs i b n is h k =
     subst (NoneMatches v) (sym (take_more bs i b n ∙ ap (λ x. take i bs ++ x ∷ []) (sym is))) (more_none v (take i bs) b h (unbound (binding (pattern_view b.pattern) v) k))
-
--- the one that does
-pub first_found : (v : Value) (bs : List Branch) (i : ℕ) (b : Branch) → i < length bs → b ≡ get_or bs i b → is_some (binding (pattern_view b.pattern) v) ≡ true → FirstMatches v (drop i bs)
-first_found v bs i b n is h = subst (FirstMatches v) (sym (cons_at bs i b n is)) h
-
-pub first_there : (v : Value) (bs : List Branch) (i : ℕ) (b : Branch) → i < length bs → b ≡ get_or bs i b → FirstMatches v (drop i bs) → is_some (binding (pattern_view b.pattern) v) ≡ true
-first_there v bs i b n is h = subst (FirstMatches v) (cons_at bs i b n is) h
 
 -- a clause, as it is chosen
 abbrev pub as_chosen : Nodes → ℕ → Branch → Assigns → Chosen

@@ -9,8 +9,8 @@ ghost use Rattle.assigns_track.specs.Track.{differ, present_of, settled_of};
 ghost use Rattle.doc_model.specs.Environment.{lookup};
 ghost use Rattle.diff_render.specs.Tracked.{AreChanged, Leaves, bound_before, variable_differs, variables_before};
 
-use ast_core::Reads;
 use assigns_track::Tracked;
+use ast_core::Reads;
 use expr_eval::{Bindings, Variables, value_in};
 use std::alloc::Global;
 use text_core::{OutOfMemory, Seq, Text};
@@ -63,7 +63,9 @@ impl Tracking {
     fn any_variable(&self, names: &[Text]) -> bool
         ensures { result ≡ list_any (λ n. variable_differs self.now n) names.now }
     {
-        names.iter().any(|name| self.variable_changed(name.as_str()))
+        names
+            .iter()
+            .any(|name| self.variable_changed(name.as_str()))
     }
 
     fn variable_changed(&self, name: &str) -> bool

@@ -1,4 +1,4 @@
-use Rattle.std.proofs.Common.{Some, None, option_map, refl, sym, ap, ◌∙◌, subst}
+use Rattle.std.proofs.Common.{option_map, refl, sym, ap, ◌∙◌, subst}
 use Rattle.value_core.specs.View.{assigns_view, view}
 use Rattle.value_core.specs.declared.raise.Raise.TheVariants.{NoClause}
 use Rattle.diff_render.specs.Taken.{IsFirst}
