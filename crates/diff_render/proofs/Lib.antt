@@ -9,3 +9,4 @@ pub mod Recalls
 pub mod Same
 pub mod Sent
 pub mod Takes
+pub mod Texts

@@ -1,0 +1,183 @@
+-- The text of nodes, one after the other, is their full rendering.
+use Rattle.std.proofs.Common.{◌≡◌, ◌<◌, ◌≤◌, ◌+◌, ℕ, zero, suc, List, [], ◌∷◌, ◌++◌, length, drop, get_or, map, Result, Ok, Err, Option, Some, None, is_some, Bool, true, false, if◌then◌else◌, refl, sym, ap, ◌∙◌, subst, append_assoc, true≢false}
+use Rattle.std.proofs.Math.ListN.{drop_of_length-le}
+use Rattle.std.proofs.lemmas.List.{append-nil}
+use Rattle.text_core.specs.declared.by_key.KeyValue.{KeyValue}
+use Rattle.value_core.specs.Value.{Value, Assigns}
+use Rattle.value_core.specs.View.{assigns_view, view}
+use Rattle.value_core.specs.declared.raise.Raise.{Raise}
+use Rattle.value_core.specs.declared.raise.Raise.TheVariants.{NoClause}
+use Rattle.value_core.specs.declared.value.Value.{Value as Stored}
+use Rattle.ast_core.specs.declared.node.Attribute.{Attribute}
+use Rattle.ast_core.specs.declared.node.AttributeValue.{AttributeValue}
+use Rattle.ast_core.specs.declared.node.AttributeValue.TheVariants as form
+use Rattle.ast_core.specs.declared.node.Clause.{Clause}
+use Rattle.ast_core.specs.declared.node.Node.{Node}
+use Rattle.ast_core.specs.NodeView.{attribute_on, attributes_view, clause_view, clauses_view, node_view, nodes_view}
+use Rattle.ast_core.specs.Places.{written_text}
+use Rattle.ast_core.specs.Syntax as model
+use Rattle.ast_core.specs.Syntax.{bare, double_quoted, single_quoted, Clauses, no_clauses, clause, Expr, Pattern, if_place, case_place, for_place, Nodes, no_nodes, node}
+use Rattle.slot_compile.specs.Template.{all_plain, clauses_plain, node_plain}
+use Rattle.diff_tree.proofs.Order.{cons_at}
+use Rattle.diff_tree.specs.Tree.{flat}
+use Rattle.doc_model.specs.Environment.{Env, bind, binding, inside}
+use Rattle.doc_model.specs.Evaluation.{Res, both, on_res, then_do, eval_expr, is_true}
+use Rattle.doc_model.specs.Calls.{items_of}
+use Rattle.doc_model.specs.Scopes.{Deeper, Chosen, chosen, later, row_scopes}
+use Rattle.doc_model.specs.FullRendering.{full_attributes, full_else, full_node, full_nodes, full_place, full_rows}
+use Rattle.doc_model.proofs.Sames.{both_true}
+use Rattle.diff_render.specs.Answers.{Answers, Shows}
+use Rattle.diff_render.specs.Plain.{clauses_shown, one_attribute}
+use Rattle.diff_render.specs.Scope.{alone}
+use Rattle.diff_render.specs.Shown.{Evaluates}
+use Rattle.diff_render.specs.Taken.{looped}
+use Rattle.diff_render.specs.declared.fault.RenderFault.{RenderFault}
+use Rattle.diff_render.specs.declared.fault.RenderFault.TheVariants as fault
+
+-- ---- answers
+
+-- an answer of an equal result
+pub shows_as : (x : Result (List ℕ) RenderFault) (r s : Res (List ℕ)) → s ≡ r → Shows x r → Shows x s
+shows_as x r s e h = subst (Shows x) (sym e) h
+
+-- a fault of a part is one of the whole where its raise is
+pub shown_fails : (x : RenderFault) (r s : Res (List ℕ)) → ((e : Raise) → r ≡ Err e → s ≡ Err e) → Shows (Err x) r → Shows (Err x) s
+shown_fails fault.Raised r s h (e, k) = (e, h e k)
+shown_fails fault.OutOfMemory r s h k = tt
+
+pub evaluated_fails : (x : RenderFault) (r : Res Value) (s : Res (List ℕ)) → ((e : Raise) → r ≡ Err e → s ≡ Err e) → Evaluates (Err x) r → Shows (Err x) s
+evaluated_fails fault.Raised r s h (e, k) = (e, h e k)
+evaluated_fails fault.OutOfMemory r s h k = tt
+
+pub answer_fails : {A B : Type 0} (P : A → B → Type 0) (x : RenderFault) (r : Res B) (s : Res (List ℕ)) → ((e : Raise) → r ≡ Err e → s ≡ Err e) → Answers P (Err x) r → Shows (Err x) s
+answer_fails P fault.Raised r s h (e, k) = (e, h e k)
+answer_fails P fault.OutOfMemory r s h k = tt
+
+-- ---- texts, one after the other
+
+abbrev pub joined : Res (List ℕ) → Res (List ℕ) → Res (List ℕ)
+joined = both (λ a b. a ++ b)
+
+-- a text before a rendering
+abbrev pub behind : List ℕ → Res (List ℕ) → Res (List ℕ)
+behind t r = on_res (λ u. t ++ u) r
+
+pub behind_none : (r : Res (List ℕ)) → r ≡ behind [] r
+behind_none (Ok t) = refl
+behind_none (Err e) = refl
+
+-- the first text of the rest
+pub more_behind : (r one rest : Res (List ℕ)) (t more u : List ℕ) → r ≡ behind t (joined one rest) → one ≡ Ok more → u ≡ t ++ more → r ≡ behind u rest
+more_behind r one rest t more u h shows u_is = h ∙ ap (λ q. behind t (joined q rest)) shows ∙ by rest ∙ ap (λ v. behind v rest) (sym u_is)
+  where
+    by : (q : Res (List ℕ)) → behind t (joined (Ok more) q) ≡ behind (t ++ more) q
+    by (Ok v) = ap Ok (sym (append_assoc t more v))
+    by (Err e) = refl
+
+-- it fails
+pub fails_behind : (x : RenderFault) (r one rest : Res (List ℕ)) (t : List ℕ) → r ≡ behind t (joined one rest) → Shows (Err x) one → Shows (Err x) r
+fails_behind x r one rest t h shows = shown_fails x one r (λ e k. h ∙ ap (λ q. behind t (joined q rest)) k) shows
+
+-- nothing is left
+pub all_behind : (r : Res (List ℕ)) (t : List ℕ) → r ≡ behind t (Ok []) → r ≡ Ok t
+all_behind r t h = h ∙ ap Ok (append-nil t)
+
+-- ---- two parts
+
+pub both_show : (f : List ℕ → List ℕ → List ℕ) (r q : Res (List ℕ)) (a b : List ℕ) → r ≡ Ok a → q ≡ Ok b → both f r q ≡ Ok (f a b)
+both_show f r q a b h k = ap (λ s. both f s q) h ∙ ap (both f (Ok a)) k
+
+pub first_fails : (f : List ℕ → List ℕ → List ℕ) (x : RenderFault) (r q : Res (List ℕ)) → Shows (Err x) r → Shows (Err x) (both f r q)
+first_fails f x r q h = shown_fails x r (both f r q) (λ e k. ap (λ s. both f s q) k) h
+
+pub second_fails : (f : List ℕ → List ℕ → List ℕ) (x : RenderFault) (r q : Res (List ℕ)) (a : List ℕ) → r ≡ Ok a → Shows (Err x) q → Shows (Err x) (both f r q)
+second_fails f x r q a is h = shown_fails x q (both f r q) (λ e k. ap (λ s. both f s q) is ∙ ap (both f (Ok a)) k) h
+
+-- ---- attributes
+
+-- an attribute before others
+pub of_attributes : (go : Deeper (List ℕ)) (env : Env) (a : Attribute) (xs : List Attribute)
+    → full_attributes alone go env (attributes_view (a ∷ xs)) ≡ joined (one_attribute env a.name a.value) (full_attributes alone go env (attributes_view xs))
+of_attributes go env a xs = by a.value
+  where
+    rest : Res (List ℕ)
+    rest = full_attributes alone go env (attributes_view xs)
+
+    behind_text : (t : List ℕ) (r : Res (List ℕ)) → on_res (λ u. t ++ u) r ≡ joined (Ok t) r
+    behind_text t (Ok u) = refl
+    behind_text t (Err e) = refl
+
+    behind_nothing : (r : Res (List ℕ)) → r ≡ joined (Ok []) r
+    behind_nothing (Ok u) = refl
+    behind_nothing (Err e) = refl
+
+    by : (v : AttributeValue) → full_attributes alone go env (attribute_on a.name v (attributes_view xs)) ≡ joined (one_attribute env a.name v) (full_attributes alone go env (attributes_view xs))
+    by (form.Double t) = behind_text (written_text a.name (double_quoted t)) (full_attributes alone go env (attributes_view xs))
+    by (form.Single t) = behind_text (written_text a.name (single_quoted t)) (full_attributes alone go env (attributes_view xs))
+    by form.Bare = behind_text (written_text a.name bare) (full_attributes alone go env (attributes_view xs))
+    by (form.Put e) = refl
+    by (form.Spread e) = refl
+    by (form.Module m) = behind_nothing (full_attributes alone go env (attributes_view xs))
+
+-- what is left of attributes, from the one of a number on
+pub attribute_at : (go : Deeper (List ℕ)) (env : Env) (xs : List Attribute) (i : ℕ) (a : Attribute) (t : List ℕ) (r : Res (List ℕ)) → i < length xs → a ≡ get_or xs i a
+    → r ≡ behind t (full_attributes alone go env (attributes_view (drop i xs)))
+    → r ≡ behind t (joined (one_attribute env a.name a.value) (full_attributes alone go env (attributes_view (drop (i + 1) xs))))
+attribute_at go env xs i a t r n is h =
+    h ∙ ap (λ l. behind t (full_attributes alone go env (attributes_view l))) (cons_at xs i a n is) ∙ ap (behind t) (of_attributes go env a (drop (i + 1) xs))
+
+-- ---- nodes
+
+-- a node of plain nodes is plain
+pub plain_at : (ns : List Node) (i : ℕ) (n : Node) → i < length ns → n ≡ get_or ns i n → all_plain (nodes_view ns) ≡ true → node_plain (node_view n) ≡ true
+plain_at ns i n m is plain = (both_true (node_plain (node_view n)) (all_plain (nodes_view (drop (i + 1) ns))) (ap (λ l. all_plain (nodes_view l)) (sym (cons_at ns i n m is)) ∙ plain_from ns i plain)).0
+  where
+    plain_from : (ms : List Node) (j : ℕ) → all_plain (nodes_view ms) ≡ true → all_plain (nodes_view (drop j ms)) ≡ true
+    plain_from [] zero h = h
+    plain_from [] (suc j) h = h
+    plain_from (k ∷ ms) zero h = h
+    plain_from (k ∷ ms) (suc j) h = plain_from ms j (both_true (node_plain (node_view k)) (all_plain (nodes_view ms)) h).1
+
+-- what is left of nodes, from the one of a number on
+pub node_at : (go : Deeper (List ℕ)) (env : Env) (ns : List Node) (i : ℕ) (n : Node) (t : List ℕ) (r : Res (List ℕ)) → i < length ns → n ≡ get_or ns i n
+    → r ≡ behind t (full_nodes alone go env (nodes_view (drop i ns)))
+    → r ≡ behind t (joined (full_node alone go env (node_view n)) (full_nodes alone go env (nodes_view (drop (i + 1) ns))))
+node_at go env ns i n t r m is h = h ∙ ap (λ l. behind t (full_nodes alone go env (nodes_view l))) (cons_at ns i n m is)
+
+-- ---- rows
+
+-- the text of rows, one for each scope
+abbrev pub rows_full : Deeper (List ℕ) → Nodes → Env → List (List (KeyValue Stored)) → Res (List ℕ)
+rows_full go body env scopes = on_res flat (full_rows go body (map (λ bs. inside (assigns_view bs) env) scopes))
+
+-- a row before others
+pub of_rows : (go : Deeper (List ℕ)) (body : Nodes) (env : Env) (s : List (KeyValue Stored)) (ss : List (List (KeyValue Stored)))
+    → rows_full go body env (s ∷ ss) ≡ joined (go (inside (assigns_view s) env) body) (rows_full go body env ss)
+of_rows go body env s ss = by (go (inside (assigns_view s) env) body) (full_rows go body (map (λ bs. inside (assigns_view bs) env) ss))
+  where
+    by : (r : Res (List ℕ)) (q : Res (List (List ℕ))) → on_res flat (both (λ t ts. t ∷ ts) r q) ≡ joined r (on_res flat q)
+    by (Ok t) (Ok ts) = refl
+    by (Ok t) (Err e) = refl
+    by (Err e) q = refl
+
+-- ---- clauses
+
+-- a clause that does not match is passed
+pub clause_passed : (go : Deeper (List ℕ)) (env : Env) (v : Value) (p : Pattern) (ns : Nodes) (cs : Clauses) → is_some (binding p v) ≡ false
+    → clauses_shown go env v (clause p ns cs) ≡ clauses_shown go env v cs
+clause_passed go env v p ns cs h = by (binding p v) h
+  where
+    by : (o : Option Assigns) → is_some o ≡ false
+        → then_do (elim o [ None ↦ on_res later (chosen v cs) | Some as' ↦ Ok (record { index = 0; variables = as'; nodes = ns }) ]) (λ c. go (bind c.variables env) c.nodes) ≡ clauses_shown go env v cs
+    by None h = further (chosen v cs)
+      where
+        further : (r : Res Chosen) → then_do (on_res later r) (λ c. go (bind c.variables env) c.nodes) ≡ then_do r (λ c. go (bind c.variables env) c.nodes)
+        further (Ok c) = refl
+        further (Err e) = refl
+    by (Some as') h = absurd (true≢false h)
+
+-- the clause that matches is shown
+pub clause_taken : (go : Deeper (List ℕ)) (env : Env) (v : Value) (p : Pattern) (ns : Nodes) (cs : Clauses) (bound : Assigns) → binding p v ≡ Some bound
+    → clauses_shown go env v (clause p ns cs) ≡ go (bind bound env) ns
+clause_taken go env v p ns cs bound h =
+    ap (λ (o : Option Assigns). then_do (elim o [ None ↦ on_res later (chosen v cs) | Some as' ↦ Ok (record { index = 0; variables = as'; nodes = ns }) ]) (λ c. go (bind c.variables env) c.nodes)) h
