@@ -1,30 +1,31 @@
 -- The text of nodes, one after the other, is their full rendering.
-use Rattle.std.proofs.Common.{◌≡◌, ◌<◌, ◌≤◌, ◌+◌, ℕ, zero, suc, List, [], ◌∷◌, ◌++◌, length, drop, get_or, map, Result, Ok, Err, Option, Some, None, is_some, Bool, true, false, if◌then◌else◌, refl, sym, ap, ◌∙◌, subst, append_assoc, true≢false}
+use Rattle.std.proofs.Common.{◌≡◌, ◌<◌, ◌≤◌, ◌+◌, ◌-◌, ◌↔◌, ℕ, zero, suc, List, [], ◌∷◌, ◌++◌, length, drop, get_or, map, Result, Ok, Err, Option, Some, None, is_some, IsTrue, Bool, true, false, ◌&&◌, if◌then◌else◌, refl, sym, ap, ◌∙◌, subst, append_assoc, true≢false, arith}
 use Rattle.std.proofs.Math.ListN.{drop_of_length-le}
 use Rattle.std.proofs.lemmas.List.{append-nil}
 use Rattle.text_core.specs.declared.by_key.KeyValue.{KeyValue}
-use Rattle.value_core.specs.Value.{Value, Assigns}
+use Rattle.value_core.specs.Value.{Value, Values, Assigns}
 use Rattle.value_core.specs.View.{assigns_view, view}
 use Rattle.value_core.specs.declared.raise.Raise.{Raise}
-use Rattle.value_core.specs.declared.raise.Raise.TheVariants.{NoClause}
+use Rattle.value_core.specs.declared.raise.Raise.TheVariants.{Deep, NoClause}
 use Rattle.value_core.specs.declared.value.Value.{Value as Stored}
 use Rattle.ast_core.specs.declared.node.Attribute.{Attribute}
 use Rattle.ast_core.specs.declared.node.AttributeValue.{AttributeValue}
 use Rattle.ast_core.specs.declared.node.AttributeValue.TheVariants as form
-use Rattle.ast_core.specs.declared.node.Clause.{Clause}
+use Rattle.ast_core.specs.declared.node.Clause.{Clause, out-Clause}
 use Rattle.ast_core.specs.declared.node.Node.{Node}
 use Rattle.ast_core.specs.NodeView.{attribute_on, attributes_view, clause_view, clauses_view, node_view, nodes_view}
+use Rattle.ast_core.specs.PatternView.{pattern_view}
 use Rattle.ast_core.specs.Places.{written_text}
-use Rattle.ast_core.specs.Syntax as model
 use Rattle.ast_core.specs.Syntax.{bare, double_quoted, single_quoted, Clauses, no_clauses, clause, Expr, Pattern, if_place, case_place, for_place, Nodes, no_nodes, node}
 use Rattle.slot_compile.specs.Template.{all_plain, clauses_plain, node_plain}
+use Rattle.slot_compile.proofs.Seen.{seen_clause}
 use Rattle.diff_tree.proofs.Order.{cons_at}
 use Rattle.diff_tree.specs.Tree.{flat}
 use Rattle.doc_model.specs.Environment.{Env, bind, binding, inside}
 use Rattle.doc_model.specs.Evaluation.{Res, both, on_res, then_do, eval_expr, is_true}
 use Rattle.doc_model.specs.Calls.{items_of}
 use Rattle.doc_model.specs.Scopes.{Deeper, Chosen, chosen, later, row_scopes}
-use Rattle.doc_model.specs.FullRendering.{full_attributes, full_else, full_node, full_nodes, full_place, full_rows}
+use Rattle.doc_model.specs.FullRendering.{full_attributes, full_else, full_node, full_nodes, full_place, full_render, full_rows}
 use Rattle.doc_model.proofs.Sames.{both_true}
 use Rattle.diff_render.specs.Answers.{Answers, Shows}
 use Rattle.diff_render.specs.Plain.{clauses_shown, one_attribute}
@@ -126,17 +127,29 @@ pub attribute_at : (go : Deeper (List ℕ)) (env : Env) (xs : List Attribute) (i
 attribute_at go env xs i a t r n is h =
     h ∙ ap (λ l. behind t (full_attributes alone go env (attributes_view l))) (cons_at xs i a n is) ∙ ap (behind t) (of_attributes go env a (drop (i + 1) xs))
 
--- ---- nodes
+-- ---- a test of all items
+
+module _ {A : Type 0} (one : A → Bool) (all : List A → Bool) (step : (x : A) (xs : List A) → all (x ∷ xs) ≡ (one x && all xs)) where
+  holds_from : (xs : List A) (i : ℕ) → all xs ≡ true → all (drop i xs) ≡ true
+  holds_from [] zero h = h
+  holds_from [] (suc i) h = h
+  holds_from (x ∷ xs) zero h = h
+  holds_from (x ∷ xs) (suc i) h = holds_from xs i (both_true (one x) (all xs) (sym (step x xs) ∙ h)).1
+
+  -- it holds of each
+  pub holds_at : (xs : List A) (i : ℕ) (x : A) → i < length xs → x ≡ get_or xs i x → all xs ≡ true → one x ≡ true
+  holds_at xs i x n is h =
+      (both_true (one x) (all (drop (i + 1) xs)) (sym (step x (drop (i + 1) xs)) ∙ ap all (sym (cons_at xs i x n is)) ∙ holds_from xs i h)).0
 
 -- a node of plain nodes is plain
 pub plain_at : (ns : List Node) (i : ℕ) (n : Node) → i < length ns → n ≡ get_or ns i n → all_plain (nodes_view ns) ≡ true → node_plain (node_view n) ≡ true
-plain_at ns i n m is plain = (both_true (node_plain (node_view n)) (all_plain (nodes_view (drop (i + 1) ns))) (ap (λ l. all_plain (nodes_view l)) (sym (cons_at ns i n m is)) ∙ plain_from ns i plain)).0
-  where
-    plain_from : (ms : List Node) (j : ℕ) → all_plain (nodes_view ms) ≡ true → all_plain (nodes_view (drop j ms)) ≡ true
-    plain_from [] zero h = h
-    plain_from [] (suc j) h = h
-    plain_from (k ∷ ms) zero h = h
-    plain_from (k ∷ ms) (suc j) h = plain_from ms j (both_true (node_plain (node_view k)) (all_plain (nodes_view ms)) h).1
+plain_at = holds_at (λ n. node_plain (node_view n)) (λ ns. all_plain (nodes_view ns)) (λ n ns. refl)
+
+-- a clause of plain clauses is plain
+pub plain_clause_at : (cs : List Clause) (i : ℕ) (c : Clause) → i < length cs → c ≡ get_or cs i c → clauses_plain (clauses_view cs) ≡ true → all_plain (clause_view c).1 ≡ true
+plain_clause_at = holds_at (λ c. all_plain (clause_view c).1) (λ cs. clauses_plain (clauses_view cs)) (λ c cs. refl)
+
+-- ---- nodes
 
 -- what is left of nodes, from the one of a number on
 pub node_at : (go : Deeper (List ℕ)) (env : Env) (ns : List Node) (i : ℕ) (n : Node) (t : List ℕ) (r : Res (List ℕ)) → i < length ns → n ≡ get_or ns i n
@@ -177,7 +190,69 @@ clause_passed go env v p ns cs h = by (binding p v) h
     by (Some as') h = absurd (true≢false h)
 
 -- the clause that matches is shown
-pub clause_taken : (go : Deeper (List ℕ)) (env : Env) (v : Value) (p : Pattern) (ns : Nodes) (cs : Clauses) (bound : Assigns) → binding p v ≡ Some bound
+clause_taken : (go : Deeper (List ℕ)) (env : Env) (v : Value) (p : Pattern) (ns : Nodes) (cs : Clauses) (bound : Assigns) → binding p v ≡ Some bound
     → clauses_shown go env v (clause p ns cs) ≡ go (bind bound env) ns
 clause_taken go env v p ns cs bound h =
     ap (λ (o : Option Assigns). then_do (elim o [ None ↦ on_res later (chosen v cs) | Some as' ↦ Ok (record { index = 0; variables = as'; nodes = ns }) ]) (λ c. go (bind c.variables env) c.nodes)) h
+
+-- what is left of clauses, from the one of a number on
+clause_at : (go : Deeper (List ℕ)) (env : Env) (v : Value) (cs : List Clause) (i : ℕ) (c : Clause) (r : Res (List ℕ)) → i < length cs → c ≡ get_or cs i c
+    → r ≡ clauses_shown go env v (clauses_view (drop i cs)) → r ≡ clauses_shown go env v (clause (pattern_view (out-Clause c).pattern) (clause_view c).1 (clauses_view (drop (i + 1) cs)))
+clause_at go env v cs i c r n is h =
+    h ∙ ap (λ l. clauses_shown go env v (clauses_view l)) (cons_at cs i c n is)
+    ∙ ap (λ (p : Pattern). clauses_shown go env v (clause p (clause_view c).1 (clauses_view (drop (i + 1) cs)))) (ap (λ (q : Pattern × Nodes). q.0) (seen_clause c))
+
+pub next_clause : (go : Deeper (List ℕ)) (env : Env) (v : Value) (cs : List Clause) (i : ℕ) (c : Clause) (r : Res (List ℕ)) → i < length cs → c ≡ get_or cs i c
+    → r ≡ clauses_shown go env v (clauses_view (drop i cs)) → is_some (binding (pattern_view (out-Clause c).pattern) v) ≡ false → r ≡ clauses_shown go env v (clauses_view (drop (i + 1) cs))
+next_clause go env v cs i c r n is h passed =
+    clause_at go env v cs i c r n is h ∙ clause_passed go env v (pattern_view (out-Clause c).pattern) (clause_view c).1 (clauses_view (drop (i + 1) cs)) passed
+
+-- what a matching pattern binds
+pub bound_by : (o : Option Assigns) → is_some o ≡ true → (bound : Assigns) × (o ≡ Some bound)
+bound_by None h = absurd (true≢false (sym h))
+bound_by (Some as') h = (as', refl)
+
+pub found_clause : (go : Deeper (List ℕ)) (env : Env) (v : Value) (cs : List Clause) (i : ℕ) (c : Clause) (r : Res (List ℕ)) (bound : Assigns) → i < length cs → c ≡ get_or cs i c
+    → r ≡ clauses_shown go env v (clauses_view (drop i cs)) → binding (pattern_view (out-Clause c).pattern) v ≡ Some bound → r ≡ go (bind bound env) (clause_view c).1
+found_clause go env v cs i c r bound n is h binds =
+    clause_at go env v cs i c r n is h ∙ clause_taken go env v (pattern_view (out-Clause c).pattern) (clause_view c).1 (clauses_view (drop (i + 1) cs)) bound binds
+
+pub no_clause : (go : Deeper (List ℕ)) (env : Env) (v : Value) (cs : List Clause) (i : ℕ) (r : Res (List ℕ)) → length cs ≤ i → r ≡ clauses_shown go env v (clauses_view (drop i cs)) → r ≡ Err NoClause
+no_clause go env v cs i r past h = h ∙ ap (λ l. clauses_shown go env v (clauses_view l)) (drop_of_length-le cs past)
+
+-- ---- places
+
+-- a loop that raises, and one that has rows
+pub for_raises : (go : Deeper (List ℕ)) (env : Env) (p : Pattern) (e : Expr) (body : Nodes) (x : Raise) → looped env (for_place p e body) ≡ Err x → full_place alone go env (for_place p e body) ≡ Err x
+for_raises go env p e body x h = by (then_do (eval_expr env e) items_of) h
+  where
+    by : (r : Res Values) → on_res (row_scopes env p) r ≡ Err x → on_res flat (then_do r (λ vs. full_rows go body (row_scopes env p vs))) ≡ Err x
+    by (Ok vs) k = cc
+    by (Err y) k = let is : y ≡ x = cc in ap Err is
+
+pub for_rows : (go : Deeper (List ℕ)) (env : Env) (p : Pattern) (e : Expr) (body : Nodes) (envs : List Env) → looped env (for_place p e body) ≡ Ok envs
+    → full_place alone go env (for_place p e body) ≡ on_res flat (full_rows go body envs)
+for_rows go env p e body envs h = by (then_do (eval_expr env e) items_of) h
+  where
+    by : (r : Res Values) → on_res (row_scopes env p) r ≡ Ok envs → on_res flat (then_do r (λ vs. full_rows go body (row_scopes env p vs))) ≡ on_res flat (full_rows go body envs)
+    by (Ok vs) k = let is : row_scopes env p vs ≡ envs = cc in ap (λ es. on_res flat (full_rows go body es)) is
+    by (Err y) k = cc
+
+-- an else that has content
+pub else_shown : (go : Deeper (List ℕ)) (env : Env) (ns : List Node) (empty : Bool) → (IsTrue empty ↔ (ns ≡ [])) → empty ≡ false → full_else go env (nodes_view ns) ≡ go env (nodes_view ns)
+else_shown go env [] empty h is = absurd (true≢false (sym (h.1 refl) ∙ is))
+else_shown go env (n ∷ ns) empty h is = refl
+
+pub else_taken : (go : Deeper (List ℕ)) (env : Env) (t : Expr) (a b : Nodes) (v : Value) (test : Bool) (r : Res (List ℕ)) → eval_expr env t ≡ Ok v → test ≡ is_true v → test ≡ false
+    → full_else go env b ≡ r → full_place alone go env (if_place t a b) ≡ r
+else_taken go env t a b v test r is tests fails h =
+    ap (λ (q : Res Value). then_do q (λ w. if is_true w then go env a else full_else go env b)) is ∙ ap (λ (c : Bool). if c then go env a else full_else go env b) (sym tests ∙ fails) ∙ h
+
+-- ---- levels
+
+pub no_level : (k : ℕ) (env : Env) (ns : Nodes) → k ≡ 0 → (e : Raise) × (full_render alone k env ns ≡ Err e)
+no_level k env ns h = (Deep, ap (λ j. full_render alone j env ns) h)
+
+pub one_level : (k : ℕ) (env : Env) (ns : Nodes) → (k ≡ 0 → ⊥) → full_render alone k env ns ≡ full_nodes alone (full_render alone (k - 1)) env ns
+one_level zero env ns h = absurd (h refl)
+one_level (suc k) env ns h = let e : suc k - 1 ≡ k = omega arith in ap (λ j. full_nodes alone (full_render alone j) env ns) (sym e)
