@@ -3,8 +3,8 @@ use Rattle.std.proofs.Common.{◌≡◌, ◌<◌, ◌≤◌, ◌+◌, ◌-◌, �
 use Rattle.std.proofs.Math.ListN.{drop_of_length-le}
 use Rattle.std.proofs.lemmas.List.{append-nil}
 use Rattle.text_core.specs.declared.by_key.KeyValue.{KeyValue}
-use Rattle.value_core.specs.Value.{Value, Values, Assigns}
-use Rattle.value_core.specs.View.{assigns_view, view}
+use Rattle.value_core.specs.Value.{Value, Values, Assigns, no_assigns}
+use Rattle.value_core.specs.View.{assigns_view}
 use Rattle.value_core.specs.declared.raise.Raise.{Raise}
 use Rattle.value_core.specs.declared.raise.Raise.TheVariants.{Deep, NoClause}
 use Rattle.value_core.specs.declared.value.Value.{Value as Stored}
@@ -16,24 +16,28 @@ use Rattle.ast_core.specs.declared.node.Node.{Node}
 use Rattle.ast_core.specs.NodeView.{attribute_on, attributes_view, clause_view, clauses_view, node_view, nodes_view}
 use Rattle.ast_core.specs.PatternView.{pattern_view}
 use Rattle.ast_core.specs.Places.{written_text}
-use Rattle.ast_core.specs.Syntax.{bare, double_quoted, single_quoted, Clauses, no_clauses, clause, Expr, Pattern, if_place, case_place, for_place, Nodes, no_nodes, node}
-use Rattle.slot_compile.specs.Template.{all_plain, clauses_plain, node_plain}
+use Rattle.ast_core.specs.Syntax.{bare, double_quoted, single_quoted, Clauses, clause, Expr, Pattern, if_place, for_place, Nodes}
+use Rattle.slot_compile.specs.Template.{Source, syntax_of, IsPlain, all_plain, clauses_plain, node_plain}
 use Rattle.slot_compile.proofs.Seen.{seen_clause}
 use Rattle.diff_tree.proofs.Order.{cons_at}
 use Rattle.diff_tree.specs.Tree.{flat}
+use Rattle.expr_eval.specs.Variables.{variables_view}
+use Rattle.expr_eval.specs.declared.variables.Variables.{Variables}
 use Rattle.doc_model.specs.Environment.{Env, bind, binding, inside}
 use Rattle.doc_model.specs.Evaluation.{Res, both, on_res, then_do, eval_expr, is_true}
 use Rattle.doc_model.specs.Calls.{items_of}
-use Rattle.doc_model.specs.Scopes.{Deeper, Chosen, chosen, later, row_scopes}
+use Rattle.doc_model.specs.Scopes.{Site, Deeper, Chosen, chosen, later, row_scopes}
+use Rattle.doc_model.specs.Process.{levels}
 use Rattle.doc_model.specs.FullRendering.{full_attributes, full_else, full_node, full_nodes, full_place, full_render, full_rows}
 use Rattle.doc_model.proofs.Sames.{both_true}
 use Rattle.diff_render.specs.Answers.{Answers, Shows}
 use Rattle.diff_render.specs.Plain.{clauses_shown, one_attribute}
-use Rattle.diff_render.specs.Scope.{alone}
-use Rattle.diff_render.specs.Shown.{Evaluates}
+use Rattle.diff_render.specs.Renders.{ShowsText}
+use Rattle.diff_render.specs.Scope.{alone, scope_in, scope_of}
 use Rattle.diff_render.specs.Taken.{looped}
 use Rattle.diff_render.specs.declared.fault.RenderFault.{RenderFault}
 use Rattle.diff_render.specs.declared.fault.RenderFault.TheVariants as fault
+use Rattle.diff_render.proofs.Plains.{plain_full}
 
 -- ---- answers
 
@@ -45,10 +49,6 @@ shows_as x r s e h = subst (Shows x) (sym e) h
 pub shown_fails : (x : RenderFault) (r s : Res (List ℕ)) → ((e : Raise) → r ≡ Err e → s ≡ Err e) → Shows (Err x) r → Shows (Err x) s
 shown_fails fault.Raised r s h (e, k) = (e, h e k)
 shown_fails fault.OutOfMemory r s h k = tt
-
-pub evaluated_fails : (x : RenderFault) (r : Res Value) (s : Res (List ℕ)) → ((e : Raise) → r ≡ Err e → s ≡ Err e) → Evaluates (Err x) r → Shows (Err x) s
-evaluated_fails fault.Raised r s h (e, k) = (e, h e k)
-evaluated_fails fault.OutOfMemory r s h k = tt
 
 pub answer_fails : {A B : Type 0} (P : A → B → Type 0) (x : RenderFault) (r : Res B) (s : Res (List ℕ)) → ((e : Raise) → r ≡ Err e → s ≡ Err e) → Answers P (Err x) r → Shows (Err x) s
 answer_fails P fault.Raised r s h (e, k) = (e, h e k)
@@ -62,10 +62,6 @@ joined = both (λ a b. a ++ b)
 -- a text before a rendering
 abbrev pub behind : List ℕ → Res (List ℕ) → Res (List ℕ)
 behind t r = on_res (λ u. t ++ u) r
-
-pub behind_none : (r : Res (List ℕ)) → r ≡ behind [] r
-behind_none (Ok t) = refl
-behind_none (Err e) = refl
 
 -- the first text of the rest
 pub more_behind : (r one rest : Res (List ℕ)) (t more u : List ℕ) → r ≡ behind t (joined one rest) → one ≡ Ok more → u ≡ t ++ more → r ≡ behind u rest
@@ -83,17 +79,6 @@ fails_behind x r one rest t h shows = shown_fails x one r (λ e k. h ∙ ap (λ 
 pub all_behind : (r : Res (List ℕ)) (t : List ℕ) → r ≡ behind t (Ok []) → r ≡ Ok t
 all_behind r t h = h ∙ ap Ok (append-nil t)
 
--- ---- two parts
-
-pub both_show : (f : List ℕ → List ℕ → List ℕ) (r q : Res (List ℕ)) (a b : List ℕ) → r ≡ Ok a → q ≡ Ok b → both f r q ≡ Ok (f a b)
-both_show f r q a b h k = ap (λ s. both f s q) h ∙ ap (both f (Ok a)) k
-
-pub first_fails : (f : List ℕ → List ℕ → List ℕ) (x : RenderFault) (r q : Res (List ℕ)) → Shows (Err x) r → Shows (Err x) (both f r q)
-first_fails f x r q h = shown_fails x r (both f r q) (λ e k. ap (λ s. both f s q) k) h
-
-pub second_fails : (f : List ℕ → List ℕ → List ℕ) (x : RenderFault) (r q : Res (List ℕ)) (a : List ℕ) → r ≡ Ok a → Shows (Err x) q → Shows (Err x) (both f r q)
-second_fails f x r q a is h = shown_fails x q (both f r q) (λ e k. ap (λ s. both f s q) is ∙ ap (both f (Ok a)) k) h
-
 -- ---- attributes
 
 -- an attribute before others
@@ -101,9 +86,6 @@ pub of_attributes : (go : Deeper (List ℕ)) (env : Env) (a : Attribute) (xs : L
     → full_attributes alone go env (attributes_view (a ∷ xs)) ≡ joined (one_attribute env a.name a.value) (full_attributes alone go env (attributes_view xs))
 of_attributes go env a xs = by a.value
   where
-    rest : Res (List ℕ)
-    rest = full_attributes alone go env (attributes_view xs)
-
     behind_text : (t : List ℕ) (r : Res (List ℕ)) → on_res (λ u. t ++ u) r ≡ joined (Ok t) r
     behind_text t (Ok u) = refl
     behind_text t (Err e) = refl
@@ -162,16 +144,6 @@ node_at go env ns i n t r m is h = h ∙ ap (λ l. behind t (full_nodes alone go
 -- the text of rows, one for each scope
 abbrev pub rows_full : Deeper (List ℕ) → Nodes → Env → List (List (KeyValue Stored)) → Res (List ℕ)
 rows_full go body env scopes = on_res flat (full_rows go body (map (λ bs. inside (assigns_view bs) env) scopes))
-
--- a row before others
-pub of_rows : (go : Deeper (List ℕ)) (body : Nodes) (env : Env) (s : List (KeyValue Stored)) (ss : List (List (KeyValue Stored)))
-    → rows_full go body env (s ∷ ss) ≡ joined (go (inside (assigns_view s) env) body) (rows_full go body env ss)
-of_rows go body env s ss = by (go (inside (assigns_view s) env) body) (full_rows go body (map (λ bs. inside (assigns_view bs) env) ss))
-  where
-    by : (r : Res (List ℕ)) (q : Res (List (List ℕ))) → on_res flat (both (λ t ts. t ∷ ts) r q) ≡ joined r (on_res flat q)
-    by (Ok t) (Ok ts) = refl
-    by (Ok t) (Err e) = refl
-    by (Err e) q = refl
 
 -- ---- clauses
 
@@ -256,3 +228,21 @@ no_level k env ns h = (Deep, ap (λ j. full_render alone j env ns) h)
 pub one_level : (k : ℕ) (env : Env) (ns : Nodes) → (k ≡ 0 → ⊥) → full_render alone k env ns ≡ full_nodes alone (full_render alone (k - 1)) env ns
 one_level zero env ns h = absurd (h refl)
 one_level (suc k) env ns h = let e : suc k - 1 ≡ k = omega arith in ap (λ j. full_nodes alone (full_render alone j) env ns) (sym e)
+
+-- ---- a page
+
+-- a plain template shows the same wherever it stands
+stands : (k : ℕ) (ns : Nodes) (as' : Assigns) (r : Res (List ℕ)) → all_plain ns ≡ true → full_render alone k (scope_of as' no_assigns) ns ≡ r
+    → (site : Site) (env : Env) → env.assigns ≡ as' → env.variables ≡ no_assigns → full_render site k env ns ≡ r
+stands k ns as' r plain h site env is none =
+    plain_full site k env ns plain ∙ ap (λ bs. full_render alone k (scope_of bs env.variables) ns) is ∙ ap (λ vs. full_render alone k (scope_of as' vs) ns) none ∙ h
+
+-- an answer for the template alone is one for the full rendering
+pub renders_plain : (c : Source) (as' : Assigns) (x : Result (List ℕ) RenderFault) → IsPlain c → Shows x (full_render alone levels (scope_of as' no_assigns) (syntax_of c)) → ShowsText c as' x
+renders_plain c as' (Ok t) plain h = stands levels (syntax_of c) as' (Ok t) plain h
+renders_plain c as' (Err fault.Raised) plain (e, h) = (e, stands levels (syntax_of c) as' (Err e) plain h)
+renders_plain c as' (Err fault.OutOfMemory) plain h = tt
+
+-- no variable stands in scope before one is bound
+pub no_scope : (as' : List (KeyValue Stored)) (vs : Variables) → vs.scopes ≡ [] → scope_in as' vs ≡ scope_of (assigns_view as') no_assigns
+no_scope as' vs h = ap (λ ss. scope_of (assigns_view as') (variables_view ss)) h

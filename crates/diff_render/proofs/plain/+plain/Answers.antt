@@ -1,23 +1,22 @@
-use Rattle.std.proofs.Common.{◌≡◌, ◌+◌, ◌-◌, ◌≤◌, ℕ, List, Err, Ok, true, length, drop, sym, ap, ◌∙◌, subst, arith, rules}
-use Rattle.std.proofs.Math.ListN.{drop_of_length-le}
+use Rattle.std.proofs.Common.{◌≡◌, ◌+◌, ◌-◌, ◌≤◌, Err, true, length, drop, sym, ap, ◌∙◌, subst, arith, rules}
 use Rattle.value_core.specs.View.{view}
 use Rattle.ast_core.specs.declared.node.Clause.{out-Clause}
 use Rattle.ast_core.specs.ExprView.{expr_view}
 use Rattle.ast_core.specs.NodeView.{clause_view, clauses_view, node_view, nodes_view, place_view}
 use Rattle.ast_core.specs.PatternView.{pattern_view}
-use Rattle.ast_core.specs.Syntax.{for_place, if_place}
+use Rattle.ast_core.specs.Syntax.{for_place}
 use Rattle.slot_compile.specs.Template.{all_plain, clauses_plain, is_plain}
 use Rattle.slot_compile.proofs.Seen.{seen_for, seen_if}
 use Rattle.diff_tree.specs.Tree.{flat}
 use Rattle.doc_model.specs.Environment.{bind, binding}
 use Rattle.doc_model.specs.Evaluation.{on_res}
-use Rattle.doc_model.specs.FullRendering.{full_else, full_node, full_nodes, full_place, full_render, full_rows}
+use Rattle.doc_model.specs.FullRendering.{full_node, full_nodes, full_place, full_render, full_rows}
 use Rattle.doc_model.proofs.Sames.{both_true}
 use Rattle.diff_render.specs.Answers.{Shows}
 use Rattle.diff_render.specs.Plain.{clauses_shown}
 use Rattle.diff_render.specs.Scope.{AreScopes, alone, scope_in}
 use Rattle.diff_render.specs.Taken.{looped}
-use Rattle.diff_render.proofs.Texts.{all_behind, answer_fails, behind, bound_by, else_shown, else_taken, fails_behind, for_raises, for_rows, found_clause, more_behind, next_clause, no_clause, no_level, node_at, one_level, plain_at, plain_clause_at, shows_as}
+use Rattle.diff_render.proofs.Texts.{answer_fails, bound_by, else_shown, else_taken, fails_behind, for_raises, for_rows, found_clause, more_behind, next_clause, no_clause, no_level, node_at, one_level, plain_at, plain_clause_at, shows_as}
 use Rattle.diff_render.proofs.plain.+plain.Goals as goal
 
 -- ---- levels
@@ -58,7 +57,7 @@ clauses_text-clauses-preserved t c =
     record {
       scope = c.clauses.invariant.scope;
       so_far = next_clause go env v cs c.clauses.clause-index c.clause-item.result (clauses_shown go env v (clauses_view cs)) c.clauses-test.true c.clause-item.is c.clauses.invariant.so_far
-      (sym c.matches.ensures ∙ c.if-matches.false);
+          (sym c.matches.ensures ∙ c.if-matches.false);
     }
 
 pub clauses_text-returns-clause-shown : goal.clauses_text-returns-clause-shown
@@ -100,10 +99,10 @@ nodes_text-nodes-preserved t c =
     record {
       scope = c.in_ok-more.ensures.scope ∙ c.nodes.invariant.scope;
       so_far = λ plain.
-      more_behind all (full_node alone go env (node_view n)) rest c.nodes.text c.in_ok-more.more c.push_str.new.self
-      (node_at go env xs c.nodes.node-index n c.nodes.text all c.nodes-test.true c.node-item.is (c.nodes.invariant.so_far plain))
-      (ap (λ vs. full_node alone go (scope_in c.args.assigns.now vs) (node_view n)) (sym c.nodes.invariant.scope)
-      ∙ c.in_ok-more.ensures.shown (plain_at xs c.nodes.node-index n c.nodes-test.true c.node-item.is plain)) (search rules);
+          more_behind all (full_node alone go env (node_view n)) rest c.nodes.text c.in_ok-more.more c.push_str.new.self
+          (node_at go env xs c.nodes.node-index n c.nodes.text all c.nodes-test.true c.node-item.is (c.nodes.invariant.so_far plain))
+          (ap (λ vs. full_node alone go (scope_in c.args.assigns.now vs) (node_view n)) (sym c.nodes.invariant.scope)
+          ∙ c.in_ok-more.ensures.shown (plain_at xs c.nodes.node-index n c.nodes-test.true c.node-item.is plain)) (search rules);
     }
 
 -- ---- places
