@@ -16,4 +16,5 @@ pub mod Recalls
 pub mod Same
 pub mod Sent
 pub mod Takes
+pub mod Texts
 pub mod Wholes
