@@ -56,7 +56,7 @@ taken_nodes env (case_place e cs) d h = by (eval_expr env e) h
     by (Err x) f = cc
 taken_nodes env _ d h = cc
 
-loop_branches_not : (p : Place) → is_branching p ≡ true → is_loop p ≡ true → ⊥
+pub loop_branches_not : (p : Place) → is_branching p ≡ true → is_loop p ≡ true → ⊥
 loop_branches_not (if_place t a b) h k = true≢false (sym k)
 loop_branches_not (case_place e cs) h k = true≢false (sym k)
 loop_branches_not _ h k = true≢false (sym h)

@@ -9,6 +9,7 @@ pub mod Kept
 pub mod Looped
 pub mod Numbered
 pub mod Passing
+pub mod Places
 pub mod Plains
 pub mod Progress
 pub mod Puts

@@ -5,7 +5,7 @@ ghost use Rattle.ast_core.specs.Syntax.{Nodes};
 ghost use Rattle.diff_tree.specs.Parts.{place_data, rows_seen};
 ghost use Rattle.diff_tree.specs.Spelling.{change_json, tree_json};
 ghost use Rattle.diff_tree.specs.Tree.{Rows};
-ghost use Rattle.slot_compile.specs.Numbering.{node_at, place_in};
+ghost use Rattle.slot_compile.specs.Numbering.{ReadsRight, node_at, place_in};
 ghost use Rattle.slot_compile.specs.Template.{syntax_of};
 ghost use Rattle.doc_model.specs.Lean.{rows_change};
 ghost use Rattle.doc_model.specs.Whole.{rows_tree};
@@ -89,6 +89,7 @@ impl<'a> Whole<'a> {
         dynamic: &Dynamic,
         levels: usize,
     ) -> Result<(PlaceValue, Print), RenderFault>
+        requires { ReadsRight (syntax_of self.compiled.now) dynamic.now }
         ensures place { GivesPlace self.entry.compiled.now self.entry.assigns.now variables.old (place_in (syntax_of self.entry.compiled.now) dynamic.now) levels result }
         ensures scope { OnOk result (variables.new ≡ variables.old) }
     {
