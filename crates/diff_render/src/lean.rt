@@ -126,6 +126,7 @@ impl<'a> Lean<'a> {
         print: Print,
         levels: usize,
     ) -> Result<Change, RenderFault>
+        requires { ReadsRight (syntax_of self.compiled.now) dynamic.now }
         ensures change { is_branching (place_in (syntax_of self.entry.compiled.now) dynamic.now) ≡ true
             → GivesChange self.entry.compiled.now self.entry.assigns.now tracking.old (place_in (syntax_of self.entry.compiled.now) dynamic.now) print levels result }
         ensures scope { OnOk result (tracking.new ≡ tracking.old) }
