@@ -1,3 +1,4 @@
+pub mod Anew
 pub mod Before
 pub mod Branches
 pub mod Changed

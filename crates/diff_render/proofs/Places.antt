@@ -141,7 +141,7 @@ none_taken t k env p x branching (None, took, is) empty = none_told t (trace alo
 none_taken t k env p x branching (Some d, took, is) empty = absurd is
 
 -- what a loop meets, from the scopes of its rows
-loop_met : (go : Deeper Items) (env : Env) (q : model.Pattern) (e : model.Expr) (body : Nodes)
+pub loop_met : (go : Deeper Items) (env : Env) (q : model.Pattern) (e : model.Expr) (body : Nodes)
     → trace_place alone go env (for_place q e body) ≡ on_res (met_rows (reading env (free_place (for_place q e body))) (cut body)) (then_do (looped env (for_place q e body)) (trace_rows go body))
 loop_met go env q e body = ap (on_res (met_rows (reading env (free_place (for_place q e body))) (cut body))) (by (then_do (eval_expr env e) items_of))
   where

@@ -85,6 +85,13 @@ GivesChange c t tr p print k r =
     (before : Assigns) (old : Item) → HasSettled t before → IsNoted tr → trace_place alone (trace alone k) (scope_then before tr) p ≡ Ok old
     → Remembers (syntax_of c) (scope_then before tr) (print_view print) p → Changes c t tr p k old r
 
+-- a place of which a deciding name differs
+abbrev pub GivesReread : Source → Tracked → Tracking → Place → Print → ℕ → Result (Option PlaceValue × Print) RenderFault → Type 0
+GivesReread c t tr p print k r =
+    (before : Assigns) (old : Item) → HasSettled t before → IsNoted tr → trace_place alone (trace alone k) (scope_then before tr) p ≡ Ok old
+    → Remembers (syntax_of c) (scope_then before tr) (print_view print) p
+    → same_reading (reading (scope_then before tr) (deciding p)) (reading (scope_now t tr) (deciding p)) ≡ false → Changes c t tr p k old r
+
 -- an interpolation, an attribute or a spread, whose text is sent
 abbrev pub GivesText : Tracked → Tracking → Place → Result (Option PlaceValue × Print) RenderFault → Type 0
 GivesText t tr p r = Answers (λ a b. (option_seen a.0 ≡ Some (string b)) × (print_view a.1 ≡ of_text)) r (shown_at (scope_now t tr) p)

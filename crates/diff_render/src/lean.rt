@@ -6,7 +6,7 @@ ghost use Rattle.diff_tree.specs.Tree.{Changes};
 ghost use Rattle.slot_compile.specs.Numbering.{ReadsRight, place_in};
 ghost use Rattle.slot_compile.specs.Template.{syntax_of};
 ghost use Rattle.doc_model.specs.Lean.{unless_empty};
-ghost use Rattle.diff_render.specs.Again.{GivesChange, GivesChanges, GivesEntered, GivesKept, GivesTaken, GivesText, GivesUnchanged, deciding, emptied, had_rows, is_branching};
+ghost use Rattle.diff_render.specs.Again.{GivesChange, GivesChanges, GivesEntered, GivesKept, GivesReread, GivesTaken, GivesText, GivesUnchanged, deciding, emptied, had_rows, is_branching};
 ghost use Rattle.diff_render.specs.Prints.{print_view};
 ghost use Rattle.diff_render.specs.Taken.{is_loop};
 ghost use Rattle.diff_render.specs.Tracked.{AreChanged};
@@ -215,7 +215,7 @@ impl<'a> Lean<'a> {
         levels: usize,
     ) -> Result<Change, RenderFault>
         ensures change { is_loop (place_in (syntax_of self.entry.compiled.now) dynamic.now) ≡ true
-            → GivesChange self.entry.compiled.now self.entry.assigns.now tracking.old (place_in (syntax_of self.entry.compiled.now) dynamic.now) print levels result }
+            → GivesReread self.entry.compiled.now self.entry.assigns.now tracking.old (place_in (syntax_of self.entry.compiled.now) dynamic.now) print levels result }
         ensures scope { OnOk result (tracking.new ≡ tracking.old) }
     {
         let Dynamic::For {
@@ -273,7 +273,7 @@ impl<'a> Lean<'a> {
     }
 
     fn whole(self) -> Whole<'a>
-        ensures compiled { result.compiled ≡ self.entry.compiled }
+        ensures compiled { result.compiled.now ≡ self.entry.compiled.now }
         ensures assigns { result.assigns.now ≡ self.entry.assigns.now.present }
     {
         Whole {
