@@ -9,6 +9,7 @@ pub mod Firsts
 pub mod Kept
 pub mod Looped
 pub mod Numbered
+pub mod Pages
 pub mod Passing
 pub mod Places
 pub mod Plains

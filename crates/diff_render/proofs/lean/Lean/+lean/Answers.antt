@@ -11,7 +11,7 @@ use Rattle.diff_render.specs.Answers.{Answers}
 use Rattle.diff_render.specs.Prints.{Remembers, of_rows, of_text, print_view, prints_view, rows_view}
 use Rattle.diff_render.specs.Renders.{AreLean}
 use Rattle.diff_render.specs.Scope.{alone, scope_in}
-use Rattle.diff_render.specs.Taken.{IsTaken, taken}
+use Rattle.diff_render.specs.Taken.{IsTaken, is_loop, taken}
 use Rattle.diff_render.specs.Tracked.{scope_now, scope_then}
 use Rattle.diff_render.specs.Values.{options_seen}
 use Rattle.diff_render.specs.declared.scope.Tracking.{Tracking}
@@ -37,7 +37,9 @@ place-returns-in-For-clause-change t c before old settled noted met held =
     let s = syntax_of c.args.self.compiled.now in
     let names = deciding (place_in s c.args.dynamic.now) in
     let a = scope_then before c.args.tracking.now in
-    let b = scope_now c.args.self.assigns.now c.args.tracking.now in ?
+    let b = scope_now c.args.self.assigns.now c.args.tracking.now in
+    c.rows.ensures.change (ap (λ d. is_loop (place_in s d)) c.in-For.is) before old settled noted met held
+    (differs c.is_changed.result (same_reading (reading a names) (reading b names)) (c.is_changed.ensures before settled) c.if-not-is_changed.false)
 
 pub branch-returns-in-None-clause-change : goal.branch-returns-in-None-clause-change
 branch-returns-in-None-clause-change t c branching before old settled noted met held =
