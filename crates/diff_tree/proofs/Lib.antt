@@ -6,6 +6,8 @@ pub mod Looks
 pub mod Order
 pub mod Keys
 pub mod Whole
+pub mod Members
+pub mod Written
 pub mod Stored
 pub mod ReadsBack
 pub mod Spelled
