@@ -11,3 +11,8 @@ pub mod Written
 pub mod Stored
 pub mod ReadsBack
 pub mod Spelled
+pub mod Taken
+pub mod Listed
+pub mod Components
+pub mod Shapes
+pub mod Pages

@@ -1,5 +1,5 @@
 -- The member of a key among the others.
-use Rattle.std.proofs.Common.{◌≡◌, ℕ, List, [], ◌∷◌, String, string_bytes, Global, Bool, true, false, cond, if◌then◌else◌, refl, sym, ap, ◌∙◌, subst, Ordering, Less, Equal, Greater, nat_cmp, Option, Some, None, true≢false}
+use Rattle.std.proofs.Common.{◌≡◌, ℕ, List, [], ◌∷◌, String, string_bytes, Global, Bool, true, false, cond, if◌then◌else◌, refl, sym, ap, ◌∙◌, subst, Ordering, Less, Equal, Greater, nat_cmp, Option, Some, None, true≢false, Result, Ok, Err, OnOk}
 use Rattle.std.specs.Ordering.{is_lt, is_eq, ordering_reverse, match_ordering}
 use Rattle.std.specs.Str.{bytes_eq}
 use Rattle.std.specs.Cmp.Lexicographic.{slice_cmp, nat_list_cmp_total}
@@ -155,3 +155,9 @@ removed k (m ∷ es) g = by (order k l) refl (removed k es p.1)
         let first : is_before k (names (members_view es)) ≡ true = subst (λ j. is_before j (names (members_view es)) ≡ true) (sym same) p.0 in
         sym (drops_if (bytes_eq l k) k l (view m.1) (members_view es) ((bytes_eq-Decides l k).1 (sym same)) ∙ above_same k (members_view es) first p.1)
     by Greater is rest = ap (member l (view m.1)) rest ∙ sym (keeps_if (bytes_eq l k) k l (view m.1) (members_view es) (without k (members_view es)) (apart_greater k l is) refl)
+
+-- ---- what is taken out
+
+pub on_ok : {A E P : Type 0} (r : Result A E) → P → OnOk r P
+on_ok (Ok a) p = p
+on_ok (Err e) p = tt

@@ -100,11 +100,15 @@ abbrev pub are_inserts : Items → Bool
 are_inserts no_items = true
 are_inserts (item d ds) = is_insert d && are_inserts ds
 
+abbrev pub is_true : Data → Bool
+is_true (boolean b) = b
+is_true _ = false
+
 -- `true` after a reset
 abbrev pub is_reset : Items → Bool
 is_reset no_items = true
-is_reset (item (boolean true) no_items) = true
-is_reset _ = false
+is_reset (item d no_items) = is_true d
+is_reset (item d ds) = false
 
 -- so many inserts
 abbrev pub inserts_fit : ℕ → Data → Bool

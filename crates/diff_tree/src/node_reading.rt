@@ -87,7 +87,7 @@ fn read_listed(alloc: Global, members: &Map<String, Value>) -> Result<Seq<Row>, 
 {
     let mut rows = Seq::new(alloc);
     'members: for (key, member) in members.iter() {
-        rows = rows_after(alloc, rows, key.as_str(), member)?;
+        rows = rows_after(alloc, key.as_str(), member, rows)?;
     }
     Ok(rows)
 }
@@ -96,9 +96,9 @@ fn read_listed(alloc: Global, members: &Map<String, Value>) -> Result<Seq<Row>, 
 #[cycle(read)]
 fn rows_after(
     alloc: Global,
-    rows: Seq<Row>,
     key: &str,
     value: &Value,
+    rows: Seq<Row>,
 ) -> Result<Seq<Row>, DiffFault>
     ensures ok { IfOk result (λ rs. ((bytes_eq key.now (codes "s") || bytes_eq key.now (codes "stream") || (bytes_eq key.now (codes "d") && is_rows (view value.now))) ≡ true)
         × (bytes_eq key.now (codes "d") ≡ true → array (rows_data rs) ≡ view value.now) × (bytes_eq key.now (codes "d") ≡ false → rs ≡ rows)) }

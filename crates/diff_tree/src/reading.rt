@@ -1,5 +1,5 @@
 //! Diffs read from their texts and from JSON values.
-ghost use Rattle.std.specs.Prelude.{◌≡◌, ◌≤◌, ◌↔◌, IsTrue, true, false, Some, None, IfOk, OnOk, IsErrOf, codes, map};
+ghost use Rattle.std.specs.Prelude.{◌≡◌, ◌≤◌, ◌↔◌, IsTrue, true, false, Some, None, IfOk, OnOk, IsErrOf, option_map, codes, map};
 ghost use Rattle.serde_json.specs.Data.{Data, object, Members, depth};
 ghost use Rattle.serde_json.specs.Find.{get_member};
 ghost use Rattle.serde_json.specs.Read.{read};
@@ -79,11 +79,17 @@ fn take_diff(alloc: Global, value: Value) -> Result<Diff, DiffFault>
     if !is_plain(&value) {
         return Err(DiffFault::BadDiff);
     }
+    take_object(alloc, value)
+}
+
+fn take_object(alloc: Global, value: Value) -> Result<Diff, DiffFault>
+    requires { is_plain (view value) ≡ true }
+    ensures ok { IfOk result (λ d. (is_diff (view value) ≡ true) × (diff_data d ≡ view value)) }
+    ensures bad { IsErrOf result DiffFault.BadDiff → is_diff (view value) ≡ false }
+{
     match value {
         Value::Object(members) => take_members(alloc, members),
-        Value::Null | Value::Bool(_) | Value::Number(_) | Value::String(_) | Value::Array(_) => {
-            Err(DiffFault::BadDiff)
-        }
+        _ => Err(DiffFault::BadDiff),
     }
 }
 
@@ -106,8 +112,16 @@ fn take_events(alloc: Global, members: &mut Map<String, Value>) -> Result<Pushes
     ensures ok { IfOk result (λ ps. (events_fit (get_member (codes "e") (members_view members.old.entries)) ≡ true) × ((ms : Members) → with_events (map pushed_of ps) ms ≡ with_member (codes "e") (get_member (codes "e") (members_view members.old.entries)) ms)) }
     ensures bad { IsErrOf result DiffFault.BadDiff → events_fit (get_member (codes "e") (members_view members.old.entries)) ≡ false }
 {
-    match members.remove("e") {
-        Some(events) => listed_events(alloc, &events),
+    let found = members.remove("e");
+    events_in(alloc, &found)
+}
+
+fn events_in(alloc: Global, found: &Option<Value>) -> Result<Pushes, DiffFault>
+    ensures ok { IfOk result (λ ps. (events_fit (option_map view found.now) ≡ true) × ((ms : Members) → with_events (map pushed_of ps) ms ≡ with_member (codes "e") (option_map view found.now) ms)) }
+    ensures bad { IsErrOf result DiffFault.BadDiff → events_fit (option_map view found.now) ≡ false }
+{
+    match found {
+        Some(events) => listed_events(alloc, events),
         None => Ok(Seq::new(alloc)),
     }
 }
@@ -122,8 +136,16 @@ fn take_components(
     ensures ok { IfOk result (λ cs. (components_fit (get_member (codes "c") (members_view members.old.entries)) ≡ true) × ((ms : Members) → with_components (components_data cs) ms ≡ with_member (codes "c") (get_member (codes "c") (members_view members.old.entries)) ms)) }
     ensures bad { IsErrOf result DiffFault.BadDiff → components_fit (get_member (codes "c") (members_view members.old.entries)) ≡ false }
 {
-    match members.remove("c") {
-        Some(components) => listed_components(alloc, &components),
+    let found = members.remove("c");
+    components_in(alloc, &found)
+}
+
+fn components_in(alloc: Global, found: &Option<Value>) -> Result<Seq<ComponentPart>, DiffFault>
+    ensures ok { IfOk result (λ cs. (components_fit (option_map view found.now) ≡ true) × ((ms : Members) → with_components (components_data cs) ms ≡ with_member (codes "c") (option_map view found.now) ms)) }
+    ensures bad { IsErrOf result DiffFault.BadDiff → components_fit (option_map view found.now) ≡ false }
+{
+    match found {
+        Some(components) => listed_components(alloc, components),
         None => Ok(Seq::new(alloc)),
     }
 }
