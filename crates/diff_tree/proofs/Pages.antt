@@ -8,10 +8,11 @@ use Rattle.text_core.proofs.Keyed.{both_of}
 use Rattle.diff_tree.specs.Plain.{names, is_plain, members_are_plain}
 use Rattle.diff_tree.specs.Spelling.{with_events, with_components, members_of}
 use Rattle.diff_tree.specs.Parts.{part_data, components_data}
-use Rattle.diff_tree.specs.Grammar.{is_component, is_node, are_components, components_fit, events_fit, without, with_member, root_in, is_diff}
+use Rattle.diff_tree.specs.Grammar.{is_component, is_node, are_components, components_fit, events_fit, without, with_member, is_diff}
 use Rattle.diff_tree.specs.declared.diff.ComponentPart.{ComponentPart}
 use Rattle.diff_tree.proofs.Keys.{Json}
 use Rattle.diff_tree.proofs.Order.{join, join-none, join-join, put_first, both_to}
+use Rattle.diff_tree.proofs.Shapes.{and_false}
 use Rattle.diff_tree.proofs.Members.{with_back, without_ascends, get_without}
 
 -- the members of components, in their order
@@ -77,19 +78,33 @@ listed_under d ms cs h some same ns =
 
 
 
-object_again : (d : Data) → is_node d ≡ true → object (members_of d) ≡ d
-object_again null h = cc
-object_again (boolean b) h = cc
-object_again (number n) h = cc
-object_again (string s) h = cc
-object_again (array ds) h = cc
-object_again (object ms) h = refl
+third_false : (a b c d : Bool) → c ≡ false → (a && b && c && d) ≡ false
+third_false a b c d h = ap (λ x. a && b && x && d) h ∙ ap (λ x. x && d) (and_false (a && b))
+
+fourth_false : (a b c d : Bool) → d ≡ false → (a && b && c && d) ≡ false
+fourth_false a b c d h = ap (λ x. a && b && c && x) h ∙ and_false (a && b && c)
+
+all_true : (a b c d : Bool) → a ≡ true → b ≡ true → c ≡ true → d ≡ true → (a && b && c && d) ≡ true
+all_true a b c d h i j k = both_to (a && b && c) d (both_to (a && b) c (both_to a b h i) j) k
+
+-- the object without its components and its events
+abbrev pub root_of_members : Members → Data
+root_of_members ms = object (without (codes "c") (without (codes "e") ms))
+
+pub components_refused : (ms : Members) → components_fit (get_member (codes "c") ms) ≡ false → is_diff (object ms) ≡ false
+components_refused ms h = third_false (is_plain (object ms)) (events_fit (get_member (codes "e") ms)) (components_fit (get_member (codes "c") ms)) (is_node (root_of_members ms)) h
+
+pub root_refused : (ms : Members) → is_node (root_of_members ms) ≡ false → is_diff (object ms) ≡ false
+root_refused ms h = fourth_false (is_plain (object ms)) (events_fit (get_member (codes "e") ms)) (components_fit (get_member (codes "c") ms)) (is_node (root_of_members ms)) h
+
+pub page_is : (ms : Members) → is_plain (object ms) ≡ true → events_fit (get_member (codes "e") ms) ≡ true → components_fit (get_member (codes "c") ms) ≡ true → is_node (root_of_members ms) ≡ true → is_diff (object ms) ≡ true
+page_is ms h i j k = all_true (is_plain (object ms)) (events_fit (get_member (codes "e") ms)) (components_fit (get_member (codes "c") ms)) (is_node (root_of_members ms)) h i j k
 
 pub ascends : (ms : Members) → is_plain (object ms) ≡ true → ascend (names ms) ≡ true
 ascends ms h = (both_of (ascend (names ms)) (members_are_plain ms) h).0
 
 -- what was taken out goes back
-pub page_back : (ms : Members) (root : Data) → ascend (names ms) ≡ true → root ≡ object (without (codes "c") (without (codes "e") ms))
+pub page_back : (ms : Members) (root : Data) → ascend (names ms) ≡ true → root ≡ root_of_members ms
     → object (with_member (codes "e") (get_member (codes "e") ms) (with_member (codes "c") (get_member (codes "c") ms) (members_of root))) ≡ object ms
 page_back ms root g is =
     let left : Members = without (codes "e") ms in
