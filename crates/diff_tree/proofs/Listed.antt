@@ -1,23 +1,22 @@
 -- Nodes of rows, read from JSON.
-use Rattle.std.proofs.Common.{◌≡◌, ◌≢◌, ℕ, zero, suc, ◌+◌, ◌<◌, ◌≤◌, ◌==◌, List, [], ◌∷◌, length, get_or, drop, map, String, string_bytes, Global, Bool, true, false, ◌&&◌, ◌||◌, if◌then◌else◌, Option, Some, None, option_map, is_some, refl, sym, ap, ◌∙◌, subst, arith, codes, ◌⊎◌, inl, inr, true≢false, Ordering, Less, Equal, Greater}
+use Rattle.std.proofs.Common.{◌≡◌, ℕ, suc, ◌+◌, ◌<◌, ◌≤◌, ◌==◌, List, [], ◌∷◌, length, get_or, drop, map, Bool, true, false, ◌&&◌, ◌||◌, if◌then◌else◌, Option, Some, None, is_some, refl, sym, ap, ◌∙◌, subst, codes, ◌⊎◌, inl, inr, true≢false, Ordering, Less, Equal, Greater}
 use Rattle.std.proofs.lemmas.Map.Lookups.{exact_bytes}
-use Rattle.std.specs.Prelude.{unwrap_or, option_and_then}
+use Rattle.std.specs.Prelude.{option_and_then}
 use Rattle.std.specs.Ordering.{is_lt, match_ordering}
 use Rattle.std.specs.Str.{bytes_eq}
 use Rattle.std.proofs.Math.ListN.{drop_of_length-le}
 use Rattle.std.proofs.lemmas.Slice.Eq.{bytes_eq-Decides}
-use Rattle.serde_json.specs.Data.{Data, null, boolean, number, string, array, object, Items, no_items, item, Members, no_members, member, put}
+use Rattle.serde_json.specs.Data.{Data, array, object, Items, no_items, Members, no_members, member, put}
 use Rattle.serde_json.specs.Events.{items_len}
 use Rattle.serde_json.specs.Find.{get, get_member, as_array}
-use Rattle.serde_json.specs.View.{view, items_of, items_view, members_view}
+use Rattle.serde_json.specs.View.{items_of}
 use Rattle.text_core.specs.Keyed.{is_before, ascend}
 use Rattle.text_core.proofs.Keyed.{order, both_of}
 use Rattle.diff_tree.specs.Plain.{names}
 use Rattle.diff_tree.specs.Parts.{place_data, row_data, rows_data}
-use Rattle.diff_tree.specs.Grammar.{have_length, is_node, are_listed, is_rows, list_fits, fit_rows, rows_in, statics_fit, are_places, without, with_member}
+use Rattle.diff_tree.specs.Grammar.{have_length, is_node, are_listed, is_rows, list_fits, fit_rows, statics_fit, are_places, without, with_member}
 use Rattle.diff_tree.specs.declared.part.PlaceValue.{PlaceValue}
 use Rattle.diff_tree.specs.declared.part.Row.{Row, out-Row}
-use Rattle.diff_tree.proofs.Keys.{Json}
 use Rattle.diff_tree.proofs.Order.{cons_at, before_rest, both_to}
 use Rattle.diff_tree.proofs.Members.{with_back, without_ascends, get_without, keeps_if, drops_if}
 use Rattle.diff_tree.proofs.Written.{row_data-out}

@@ -1,14 +1,14 @@
 -- Roots with their components and their events.
-use Rattle.std.proofs.Common.{◌≡◌, ℕ, List, [], ◌∷◌, ◌++◌, String, string_bytes, Global, length, Bool, true, false, ◌&&◌, ◌==◌, Option, Some, None, refl, sym, ap, ◌∙◌, subst, arith, codes, decimal, true≢false}
+use Rattle.std.proofs.Common.{◌≡◌, List, [], ◌∷◌, ◌++◌, String, string_bytes, Global, Bool, true, false, ◌&&◌, Some, refl, sym, ap, ◌∙◌, codes, decimal}
 use Rattle.serde_json.specs.Data.{Data, null, boolean, number, string, array, object, Members, no_members, member, put}
-use Rattle.serde_json.specs.Find.{get, get_member, as_object}
+use Rattle.serde_json.specs.Find.{get_member, as_object}
 use Rattle.serde_json.specs.View.{view, members_view}
 use Rattle.text_core.specs.Keyed.{is_before, ascend}
 use Rattle.text_core.proofs.Keyed.{both_of}
 use Rattle.diff_tree.specs.Plain.{names, is_plain, members_are_plain}
-use Rattle.diff_tree.specs.Spelling.{with_events, with_components, members_of}
+use Rattle.diff_tree.specs.Spelling.{with_components, members_of}
 use Rattle.diff_tree.specs.Parts.{part_data, components_data}
-use Rattle.diff_tree.specs.Grammar.{is_component, is_node, are_components, components_fit, events_fit, without, with_member, is_diff}
+use Rattle.diff_tree.specs.Grammar.{is_node, are_components, components_fit, events_fit, without, with_member, is_diff}
 use Rattle.diff_tree.specs.declared.diff.ComponentPart.{ComponentPart}
 use Rattle.diff_tree.proofs.Keys.{Json}
 use Rattle.diff_tree.proofs.Order.{join, join-none, join-join, put_first, both_to}
@@ -74,9 +74,6 @@ listed_under d ms cs h some same ns =
     ap (λ l. with_components l ns) same ∙ with_some (members_view ms) ns (some_members ms some) ∙ ap (λ x. put (codes "c") x ns) (sym (is_object d (members_view ms) h))
 
 -- ---- a page
-
-
-
 
 third_false : (a b c d : Bool) → c ≡ false → (a && b && c && d) ≡ false
 third_false a b c d h = ap (λ x. a && b && x && d) h ∙ ap (λ x. x && d) (and_false (a && b))

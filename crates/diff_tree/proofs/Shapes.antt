@@ -1,9 +1,9 @@
 -- Lists of few items.
-use Rattle.std.proofs.Common.{◌≡◌, ◌≢◌, List, [], ◌∷◌, ◌++◌, length, take, map, suc, ◌≤◌, ◌+◌, ◌-◌, ◌<◌, ◌==◌, ◌&&◌, ℕ, Bool, true, false, true≢false, Some, None, Option, refl, sym, ap, ◌∙◌, arith, codes, get_or, drop}
-use Rattle.serde_json.specs.Data.{Data, null, boolean, number, string, array, object, Items, no_items, item, Members, no_members, member, put}
+use Rattle.std.proofs.Common.{◌≡◌, ◌≢◌, List, [], ◌∷◌, length, take, map, suc, ◌≤◌, ◌-◌, ◌<◌, ◌==◌, ◌&&◌, ℕ, Bool, true, false, true≢false, Some, None, Option, refl, sym, ap, ◌∙◌, arith, codes, get_or, drop}
+use Rattle.serde_json.specs.Data.{Data, array, Items, Members, put}
 use Rattle.serde_json.specs.Events.{items_len}
 use Rattle.serde_json.specs.Find.{as_array}
-use Rattle.serde_json.specs.View.{view, items_view}
+use Rattle.serde_json.specs.View.{items_view}
 use Rattle.diff_tree.specs.Grammar.{is_event, is_insert, is_reset, is_stream, inserts_fit, are_inserts, stream_fits, events_fit, are_events, are_texts, have_length, row_statics, have_one_length}
 use Rattle.diff_tree.specs.Spelling.{with_events, events_json}
 use Rattle.diff_tree.specs.Parts.{pushed_of, rows_data, row_data}

@@ -1,21 +1,20 @@
 -- Nodes read from JSON, member by member.
-use Rattle.std.proofs.Common.{◌≡◌, ◌≢◌, ℕ, zero, suc, ◌+◌, ◌<◌, ◌≤◌, ◌==◌, List, [], ◌∷◌, ◌++◌, length, get_or, drop, map, String, string_bytes, Global, Bool, true, false, ◌&&◌, ◌||◌, if◌then◌else◌, Option, Some, None, option_map, is_some, refl, sym, ap, ◌∙◌, subst, arith, codes, decimal, ◌⊎◌, inl, inr}
+use Rattle.std.proofs.Common.{◌≡◌, ◌≢◌, ℕ, zero, suc, ◌+◌, ◌<◌, ◌≤◌, ◌==◌, List, [], ◌∷◌, ◌++◌, length, get_or, drop, String, string_bytes, Global, Bool, true, false, ◌&&◌, ◌||◌, Option, Some, None, option_map, is_some, refl, sym, ap, ◌∙◌, subst, arith, codes, decimal, ◌⊎◌, inl, inr}
 use Rattle.std.specs.Str.{bytes_eq}
 use Rattle.std.proofs.Math.ListN.{drop_of_length-le}
 use Rattle.std.proofs.lemmas.List.{map-append}
 use Rattle.std.proofs.lemmas.Bool.Decides.{eqb_tells}
-use Rattle.serde_json.specs.Data.{Data, null, boolean, number, string, array, object, Items, no_items, item, Members, no_members, member, put}
+use Rattle.serde_json.specs.Data.{Data, null, boolean, number, string, array, object, Items, no_items, item, Members, no_members, member}
 use Rattle.serde_json.specs.Events.{items_len, members_len}
-use Rattle.serde_json.specs.Find.{get, get_member, as_str, as_array, as_object}
+use Rattle.serde_json.specs.Find.{get, as_str, as_array, as_object}
 use Rattle.serde_json.specs.View.{view, items_view, members_view}
 use Rattle.text_core.specs.declared.by_key.KeyValue.{KeyValue}
 use Rattle.text_core.specs.Keyed.{ascend, keys, entry, on_value}
-use Rattle.diff_tree.specs.Plain.{names}
 use Rattle.diff_tree.specs.Spelling.{texts_json}
 use Rattle.diff_tree.specs.Parts.{place_data, places_json, with_statics, seen}
 use Rattle.diff_tree.specs.Grammar.{are_texts, count_of, has_places, are_statics, are_places, is_place, is_value, surround, without, with_member}
 use Rattle.diff_tree.specs.declared.part.PlaceValue.{PlaceValue}
-use Rattle.diff_tree.proofs.Keys.{Json, member_keys}
+use Rattle.diff_tree.proofs.Keys.{Json}
 use Rattle.diff_tree.proofs.Order.{cons_at, join, join-none, join-join, chain, chain-snoc}
 use Rattle.diff_tree.proofs.Members.{keeps_if, drops_if}
 use Rattle.diff_tree.proofs.Written.{seen_in_order}

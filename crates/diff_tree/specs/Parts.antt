@@ -4,7 +4,7 @@ use Rattle.std.specs.Fmt.{decimal}
 use Rattle.serde_json.specs.Data.{Data, null, number, unsigned, string, array, object, Items, no_items, item, Members, no_members, put}
 use Rattle.serde_json.specs.View.{view, items_of}
 use Rattle.text_core.specs.declared.by_key.KeyValue.{KeyValue}
-use Rattle.text_core.specs.Keyed.{entry, on_value}
+use Rattle.text_core.specs.Keyed.{on_value}
 use Rattle.diff_tree.specs.Spelling.{whole_number_json, texts_json, reset_json, Pushed, with_events, with_components, members_of}
 use Rattle.diff_tree.specs.declared.push.Push.{Push}
 use Rattle.diff_tree.specs.declared.stream.StreamPart.{StreamPart}

@@ -14,6 +14,8 @@ mod push;
 mod reading;
 mod stream;
 mod stream_reading;
+#[cfg(test)]
+mod tests;
 mod writing;
 
 pub use diff::{ComponentPart, Diff};

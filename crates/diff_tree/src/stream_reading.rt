@@ -14,7 +14,11 @@ use std::alloc::Global;
 use text_core::{Names, Seq, Text};
 
 /// The operations on a stream that has so many rows.
-pub(crate) fn read_stream(alloc: Global, value: &Value, rows: usize) -> Result<StreamPart, DiffFault>
+pub(crate) fn read_stream(
+    alloc: Global,
+    value: &Value,
+    rows: usize,
+) -> Result<StreamPart, DiffFault>
     ensures ok { IfOk result (λ s. (is_stream rows (view value.now) ≡ true) × (stream_data s ≡ view value.now)) }
     ensures bad { IsErrOf result DiffFault.BadDiff → is_stream rows (view value.now) ≡ false }
 {

@@ -200,10 +200,7 @@ fn stream_value(alloc: Global, stream: &StreamPart) -> Result<Value, OutOfMemory
 {
     let mut items = Vec::new(alloc);
     items.push(text_value(alloc, &stream.name)?)?;
-    items.push(Value::Array(inserts_value(
-        alloc,
-        stream.inserts.as_slice(),
-    )?))?;
+    items.push(Value::Array(inserts_value(alloc, stream.inserts.as_slice())?))?;
     items.push(Value::Array(texts_value(alloc, stream.deletes.as_slice())?))?;
     if stream.reset {
         items.push(Value::Bool(true))?;

@@ -10,7 +10,6 @@ mod frame_tests;
 mod frame_writing;
 mod head;
 mod message;
-mod numbers;
 mod page_reading;
 mod payload;
 mod push;

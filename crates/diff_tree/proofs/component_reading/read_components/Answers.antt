@@ -1,4 +1,4 @@
-use Rattle.std.proofs.Common.{◌≡◌, ◌++◌, ◌∷◌, [], ◌&&◌, ◌∙◌, sym, ap, true}
+use Rattle.std.proofs.Common.{◌&&◌, ◌∙◌, sym, ap}
 use Rattle.serde_json.specs.View.{view, members_view}
 use Rattle.diff_tree.specs.Grammar.{is_component, is_node, are_components}
 use Rattle.diff_tree.proofs.Keys.{names_ascend}

@@ -1,7 +1,5 @@
-use Rattle.std.proofs.Common.{◌≡◌, ◌++◌, map, true}
+use Rattle.std.proofs.Common.{◌≡◌}
 use Rattle.serde_json.specs.View.{members_view}
-use Rattle.text_core.specs.Keyed.{ascend}
-use Rattle.diff_tree.specs.Plain.{names}
 use Rattle.diff_tree.specs.Grammar.{are_components}
 use Rattle.diff_tree.proofs.Order.{join}
 use Rattle.diff_tree.proofs.Pages.{members_in}

@@ -1,5 +1,4 @@
-use Rattle.std.proofs.Common.{rules, ◌≡◌, ◌<◌, ◌∙◌, length}
-use Rattle.diff_tree.specs.declared.part.Row.{out-Row}
+use Rattle.std.proofs.Common.{rules, ◌<◌, ◌∙◌, length}
 use Rattle.diff_tree.proofs.Shapes.{one_length}
 use Rattle.diff_tree.proofs.list_reading.have_one_length.Goals as goal
 

@@ -1,4 +1,4 @@
-use Rattle.std.proofs.Common.{rules, arith, ◌≡◌, ◌∙◌, suc, length, sym, ap, Some, true, false}
+use Rattle.std.proofs.Common.{rules, arith, ◌≡◌, ◌∙◌, suc, length, ap, Some, true, false}
 use Rattle.serde_json.specs.View.{view, items_view}
 use Rattle.diff_tree.specs.Parts.{rows_data}
 use Rattle.diff_tree.specs.Grammar.{have_length}

@@ -1,4 +1,4 @@
-use Rattle.std.proofs.Common.{rules, ◌≤◌, length}
+use Rattle.std.proofs.Common.{rules}
 use Rattle.diff_tree.proofs.Shapes.{long_reset}
 use Rattle.diff_tree.proofs.stream_reading.read_reset.Goals as goal
 

@@ -1,11 +1,10 @@
 use Rattle.std.proofs.Common.{◌≡◌, ◌≤◌, ◌++◌, ◌+◌, drop, length, map, ◌∙◌, ap, arith}
 use Rattle.std.proofs.lemmas.List.{take_all}
-use Rattle.serde_json.specs.Data.{object, Members, put}
+use Rattle.serde_json.specs.Data.{Members, put}
 use Rattle.serde_json.specs.View.{view, members_view, items_of}
-use Rattle.serde_json.proofs.Views.{view-Object}
 use Rattle.text_core.specs.Keyed.{keys, ascend}
 use Rattle.diff_tree.specs.Plain.{names}
-use Rattle.diff_tree.specs.Parts.{with_statics, places_json, seen}
+use Rattle.diff_tree.specs.Parts.{places_json, seen}
 use Rattle.diff_tree.proofs.Order.{join, chain}
 use Rattle.diff_tree.proofs.Written.{puts_on, puts_all, row_array, rows-map}
 use Rattle.diff_tree.proofs.writing.+write.Goals as goal
