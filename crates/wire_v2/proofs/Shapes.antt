@@ -1,7 +1,7 @@
 -- What frames are made of, as they are read.
-use Rattle.std.proofs.Common.{◌≡◌, ◌≢◌, ℕ, suc, ◌==◌, List, [], ◌∷◌, length, String, Global, Bool, true, false, true≢false, Some, Result, Ok, Err, IfOk, refl, sym, ap, ◌∙◌, arith, inl, inr}
+use Rattle.std.proofs.Common.{◌≡◌, ◌≢◌, ℕ, suc, ◌==◌, ◌&&◌, if◌then◌else◌, codes, List, [], ◌∷◌, length, String, Global, Bool, true, false, true≢false, Some, Result, Ok, Err, IfOk, refl, sym, ap, ◌∙◌, arith, inl, inr}
 use Rattle.std.specs.Prelude.{◌↔◌, IsTrue}
-use Rattle.std.specs.Str.{IsUtf8}
+use Rattle.std.specs.Str.{bytes_eq, IsUtf8}
 use Rattle.std.proofs.lemmas.Bool.Decides.{eqb_tells}
 use Rattle.std.proofs.lemmas.Str.{is_utf8-from_IsUtf8}
 use Rattle.serde_json.specs.Data.{Data, null, boolean, number, string, array, object, Items, no_items, item, Members, no_members, member}
@@ -12,7 +12,8 @@ use Rattle.serde_json.specs.declared.value.Value.{Value}
 use Rattle.wire_v2.specs.declared.frame.Frame.{Frame}
 use Rattle.wire_v2.specs.declared.message.MessageFault.{MessageFault}
 use Rattle.wire_v2.specs.FrameData.{frame_data}
-use Rattle.wire_v2.specs.FrameGrammar.{is_empty_list, is_empty_object, is_frame, SpellsFrame}
+use Rattle.wire_v2.specs.FrameGrammar.{two_members, is_null, is_empty_list, is_empty_object, is_reply, is_fault, is_body, is_frame, SpellsFrame}
+use Rattle.diff_tree.specs.Grammar.{is_diff}
 
 -- ---- empty lists and objects
 
@@ -81,3 +82,18 @@ not_five (a ∷ b ∷ c ∷ d ∷ e ∷ f ∷ js) h = by_event (view d)
 pub spelled : (bytes : List ℕ) (d : Data) (r : Result Frame MessageFault) → IsUtf8 bytes → read bytes ≡ Some d → IfOk r (λ f. (is_frame d ≡ true) × (frame_data f ≡ d)) → IfOk r (λ f. SpellsFrame bytes (frame_data f))
 spelled bytes d (Ok f) utf8 reads is = (is_utf8-from_IsUtf8 bytes utf8, reads ∙ ap Some (sym is.1), ap is_frame is.1 ∙ is.0)
 spelled bytes d (Err e) utf8 reads is = tt
+
+-- ---- bodies
+
+else_of : (b x y : Bool) → b ≡ false → (if b then x else y) ≡ y
+else_of b x y h = rw h refl
+
+-- an event of another name has no body
+pub no_body : (event : List ℕ) (r p : Data) → bytes_eq event (codes "phx_reply") ≡ false → bytes_eq event (codes "diff") ≡ false → bytes_eq event (codes "phx_close") ≡ false → bytes_eq event (codes "phx_error") ≡ false
+    → is_body event r p ≡ false
+no_body event r p reply diff close error =
+    let third : Bool = bytes_eq event (codes "phx_error") && is_fault p in
+    let second : Bool = if bytes_eq event (codes "phx_close") then is_empty_object p else third in
+    let first : Bool = if bytes_eq event (codes "diff") then is_null r && is_diff p else second in
+    else_of (bytes_eq event (codes "phx_reply")) (is_reply (two_members p)) first reply ∙ else_of (bytes_eq event (codes "diff")) (is_null r && is_diff p) second diff
+    ∙ else_of (bytes_eq event (codes "phx_close")) (is_empty_object p) third close ∙ ap (λ b. b && is_fault p) error
