@@ -6,6 +6,13 @@ pub mod Looks
 pub mod Order
 pub mod Keys
 pub mod Whole
+pub mod Members
+pub mod Written
 pub mod Stored
 pub mod ReadsBack
 pub mod Spelled
+pub mod Taken
+pub mod Listed
+pub mod Components
+pub mod Shapes
+pub mod Pages

@@ -1,8 +1,8 @@
 -- What is sent has no float.
-use Rattle.std.proofs.Common.{◌≡◌, ℕ, ℤ, pos, negsuc, List, [], ◌∷◌, map, Bool, true, false, not, ◌&&◌, ◌||◌, refl, sym, ap, ◌∙◌, subst, Ordering, Less, Equal, Greater, nat_cmp, Option, Some, None, codes, decimal, true≢false}
+use Rattle.std.proofs.Common.{◌≡◌, ℕ, ℤ, pos, negsuc, List, [], ◌∷◌, map, Bool, true, false, ◌||◌, refl, sym, ap, ◌∙◌, subst, Ordering, Less, Equal, Greater, nat_cmp, Option, Some, None, codes, decimal, true≢false}
 use Rattle.std.specs.Ordering.{match_ordering}
 use Rattle.std.specs.Cmp.Lexicographic.{slice_cmp}
-use Rattle.serde_json.specs.Data.{Num, unsigned, negative, float, Data, null, boolean, number, string, array, object, Items, no_items, item, Members, no_members, member, put}
+use Rattle.serde_json.specs.Data.{unsigned, negative, float, Data, null, boolean, number, string, array, object, Items, no_items, item, Members, no_members, member, put}
 use Rattle.serde_json.specs.View.{view, items_of}
 use Rattle.serde_json.specs.Written.{has_float, items_have_float, members_have_float}
 use Rattle.text_core.specs.declared.by_key.KeyValue.{KeyValue}
@@ -10,7 +10,7 @@ use Rattle.text_core.specs.Keyed.{on_value, ascend}
 use Rattle.text_core.proofs.Keyed.{both_of}
 use Rattle.diff_tree.specs.Spelling.{texts_json, whole_number_json, reset_json, events_json, with_events, with_components, members_of}
 use Rattle.diff_tree.specs.Plain.{names, is_plain, items_are_plain, members_are_plain}
-use Rattle.diff_tree.specs.Parts.{part_data, place_data, body_members, body_step, place_step, part_step, places_json, row_items, rows_seen, seen, with_statics, with_stream, limit_data, insert_data, inserts_data, stream_data, components_data, pushed_of, diff_data}
+use Rattle.diff_tree.specs.Parts.{part_data, place_data, body_members, body_step, place_step, part_step, row_step, row_data, rows_data, places_json, seen, with_statics, with_stream, limit_data, insert_data, inserts_data, stream_data, components_data, pushed_of, diff_data}
 use Rattle.diff_tree.specs.declared.push.Push.{Push}
 use Rattle.diff_tree.specs.declared.stream.StreamPart.{StreamPart}
 use Rattle.diff_tree.specs.declared.stream.StreamInsert.{StreamInsert}
@@ -19,9 +19,10 @@ use Rattle.diff_tree.specs.declared.diff.Diff.{Diff}
 use Rattle.diff_tree.specs.declared.part.Part.{Part}
 use Rattle.diff_tree.specs.declared.part.PartBody.{PartBody}
 use Rattle.diff_tree.specs.declared.part.PlaceValue.{PlaceValue}
-use Rattle.diff_tree.specs.declared.part.PartBody.TheOpen.{Part-F, PartBody-F, PlaceValue-F}
-use Rattle.diff_tree.specs.declared.part.PartBody.TheFolds.{ind-Part, map-Part, map-PartBody, map-PlaceValue, fold-roll-Part, fold-roll-PartBody, fold-roll-PlaceValue}
-use Rattle.diff_tree.specs.declared.part.PartBody.TheViews.{roll-Part, roll-PartBody, roll-PlaceValue}
+use Rattle.diff_tree.specs.declared.part.Row.{Row}
+use Rattle.diff_tree.specs.declared.part.PartBody.TheOpen.{Part-F, PartBody-F, PlaceValue-F, Row-F}
+use Rattle.diff_tree.specs.declared.part.PartBody.TheFolds.{ind-Part, map-Part, map-PartBody, map-PlaceValue, map-Row, fold-roll-Row, fold-roll-Part, fold-roll-PartBody, fold-roll-PlaceValue}
+use Rattle.diff_tree.specs.declared.part.PartBody.TheViews.{roll-Part, roll-PartBody, roll-PlaceValue, roll-Row}
 
 or_false : (a b : Bool) → a ≡ false → b ≡ false → (a || b) ≡ false
 or_false true b h k = cc
@@ -108,6 +109,9 @@ PlaceIsWhole v = has_float (place_data v) ≡ false
 abbrev PartIsWhole : Part → Type 0
 PartIsWhole p = has_float (part_data p) ≡ false
 
+abbrev RowIsWhole : Row → Type 0
+RowIsWhole r = items_have_float (row_data r) ≡ false
+
 abbrev Body : Type 0
 Body = (b : PartBody) × BodyIsWhole b
 
@@ -117,6 +121,9 @@ Place = (v : PlaceValue) × PlaceIsWhole v
 abbrev Node : Type 0
 Node = (p : Part) × PartIsWhole p
 
+abbrev Line : Type 0
+Line = (r : Row) × RowIsWhole r
+
 places_whole : (es : List (KeyValue Place)) → members_have_float (places_json (seen (map (on_value (λ e. e.0)) es))) ≡ false
 places_whole [] = refl
 places_whole (e ∷ es) = put_whole e.key (place_data e.value.0) _ e.value.1 (places_whole es)
@@ -125,32 +132,38 @@ row_whole : (vs : List Place) → items_have_float (items_of (map place_data (ma
 row_whole [] = refl
 row_whole (v ∷ vs) = or_false _ _ v.1 (row_whole vs)
 
-rows_whole : (rs : List (List Place)) → items_have_float (row_items (rows_seen (map (map (λ e. e.0)) rs))) ≡ false
+rows_whole : (rs : List Line) → items_have_float (rows_data (map (λ e. e.0) rs)) ≡ false
 rows_whole [] = refl
-rows_whole (r ∷ rs) = or_false _ _ (row_whole r) (rows_whole rs)
+rows_whole (r ∷ rs) = or_false _ _ r.1 (rows_whole rs)
 
-body_layer : (y : PartBody-F Body Place Node) → BodyIsWhole (roll-PartBody (map-PartBody _ _ _ PartBody PlaceValue Part (λ e. e.0) (λ e. e.0) (λ e. e.0) y))
-body_layer (PartBody-F.Places es) = ap members_have_float (fold-roll-PartBody Members Data Data body_step place_step part_step (PartBody-F.Places (map (on_value (λ e. e.0)) es))) ∙ places_whole es
+body_layer : (y : PartBody-F Body Place Node Line) → BodyIsWhole (roll-PartBody (map-PartBody _ _ _ _ PartBody PlaceValue Part Row (λ e. e.0) (λ e. e.0) (λ e. e.0) (λ e. e.0) y))
+body_layer (PartBody-F.Places es) = ap members_have_float (fold-roll-PartBody Members Data Data Items body_step place_step part_step row_step (PartBody-F.Places (map (on_value (λ e. e.0)) es))) ∙ places_whole es
 body_layer (PartBody-F.List rs stream) =
-    ap members_have_float (fold-roll-PartBody Members Data Data body_step place_step part_step (PartBody-F.List (map (map (λ e. e.0)) rs) stream))
-    ∙ put_whole (codes "d") (array (row_items (rows_seen (map (map (λ e. e.0)) rs)))) (with_stream stream no_members) (rows_whole rs) (streams_whole stream)
+    ap members_have_float (fold-roll-PartBody Members Data Data Items body_step place_step part_step row_step (PartBody-F.List (map (λ e. e.0) rs) stream))
+    ∙ put_whole (codes "d") (array (rows_data (map (λ e. e.0) rs))) (with_stream stream no_members) (rows_whole rs) (streams_whole stream)
 
-place_layer : (y : PlaceValue-F Body Place Node) → PlaceIsWhole (roll-PlaceValue (map-PlaceValue _ _ _ PartBody PlaceValue Part (λ e. e.0) (λ e. e.0) (λ e. e.0) y))
-place_layer (PlaceValue-F.Text t) = ap has_float (fold-roll-PlaceValue Members Data Data body_step place_step part_step (PlaceValue-F.Text t))
-place_layer (PlaceValue-F.Number n) = ap has_float (fold-roll-PlaceValue Members Data Data body_step place_step part_step (PlaceValue-F.Number n))
-place_layer (PlaceValue-F.Node e) = ap has_float (fold-roll-PlaceValue Members Data Data body_step place_step part_step (PlaceValue-F.Node e.0)) ∙ e.1
+place_layer : (y : PlaceValue-F Body Place Node Line) → PlaceIsWhole (roll-PlaceValue (map-PlaceValue _ _ _ _ PartBody PlaceValue Part Row (λ e. e.0) (λ e. e.0) (λ e. e.0) (λ e. e.0) y))
+place_layer (PlaceValue-F.Text t) = ap has_float (fold-roll-PlaceValue Members Data Data Items body_step place_step part_step row_step (PlaceValue-F.Text t))
+place_layer (PlaceValue-F.Number n) = ap has_float (fold-roll-PlaceValue Members Data Data Items body_step place_step part_step row_step (PlaceValue-F.Number n))
+place_layer (PlaceValue-F.Node e) = ap has_float (fold-roll-PlaceValue Members Data Data Items body_step place_step part_step row_step (PlaceValue-F.Node e.0)) ∙ e.1
 
-part_layer : (y : Part-F Body Place Node) → PartIsWhole (roll-Part (map-Part _ _ _ PartBody PlaceValue Part (λ e. e.0) (λ e. e.0) (λ e. e.0) y))
+part_layer : (y : Part-F Body Place Node Line) → PartIsWhole (roll-Part (map-Part _ _ _ _ PartBody PlaceValue Part Row (λ e. e.0) (λ e. e.0) (λ e. e.0) (λ e. e.0) y))
 part_layer y =
-    ap has_float (fold-roll-Part Members Data Data body_step place_step part_step (map-Part _ _ _ PartBody PlaceValue Part (λ e. e.0) (λ e. e.0) (λ e. e.0) y))
+    ap has_float (fold-roll-Part Members Data Data Items body_step place_step part_step row_step (map-Part _ _ _ _ PartBody PlaceValue Part Row (λ e. e.0) (λ e. e.0) (λ e. e.0) (λ e. e.0) y))
     ∙ statics_whole y.statics (body_members y.body.0) y.body.1
+
+row_layer : (y : Row-F Body Place Node Line) → RowIsWhole (roll-Row (map-Row _ _ _ _ PartBody PlaceValue Part Row (λ e. e.0) (λ e. e.0) (λ e. e.0) (λ e. e.0) y))
+row_layer y =
+    ap items_have_float (fold-roll-Row Members Data Data Items body_step place_step part_step row_step (map-Row _ _ _ _ PartBody PlaceValue Part Row (λ e. e.0) (λ e. e.0) (λ e. e.0) (λ e. e.0) y))
+    ∙ row_whole y.values
 
 pub part_whole : (p : Part) → has_float (part_data p) ≡ false
 part_whole =
-    ind-Part BodyIsWhole PlaceIsWhole PartIsWhole
+    ind-Part BodyIsWhole PlaceIsWhole PartIsWhole RowIsWhole
     (λ x y is. subst (λ z. BodyIsWhole (roll-PartBody z)) is (body_layer y))
     (λ x y is. subst (λ z. PlaceIsWhole (roll-PlaceValue z)) is (place_layer y))
     (λ x y is. subst (λ z. PartIsWhole (roll-Part z)) is (part_layer y))
+    (λ x y is. subst (λ z. RowIsWhole (roll-Row z)) is (row_layer y))
 
 -- ---- pages
 

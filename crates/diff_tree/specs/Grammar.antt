@@ -1,11 +1,11 @@
 -- Which JSON values are diffs, and how a diff is spelled.
-use Rattle.std.specs.Prelude.{◌≡◌, ◌≤◌, ◌-◌, ◌==◌, ◌&&◌, ◌||◌, ◌^◌, ℕ, zero, suc, pos, negsuc, List, [], ◌∷◌, length, Bool, true, false, if◌then◌else◌, nat_lt, Option, Some, None, is_some, option_and_then, codes}
+use Rattle.std.specs.Prelude.{◌≡◌, ◌≤◌, ◌-◌, ◌==◌, ◌&&◌, ◌||◌, ◌^◌, ℕ, zero, suc, negsuc, List, [], ◌∷◌, length, Bool, true, false, if◌then◌else◌, nat_lt, Option, Some, None, is_some, option_and_then, codes}
 use Rattle.std.specs.Fmt.{decimal}
 use Rattle.std.specs.List.{list_all}
 use Rattle.std.specs.Char.{is_ascii_digit}
 use Rattle.std.specs.Str.{bytes_eq}
 use Rattle.std.specs.Str.Parse.{digits_value}
-use Rattle.serde_json.specs.Data.{Num, unsigned, negative, Data, null, boolean, number, string, array, object, Items, no_items, item, Members, no_members, member, depth}
+use Rattle.serde_json.specs.Data.{Num, unsigned, negative, Data, null, boolean, number, string, array, object, Items, no_items, item, Members, no_members, member, put, depth}
 use Rattle.serde_json.specs.Events.{items_len, members_len}
 use Rattle.serde_json.specs.Find.{get, get_member, as_array}
 use Rattle.serde_json.specs.Written.{compact_text}
@@ -25,6 +25,10 @@ abbrev pub is_component : List ℕ → Bool
 is_component k = is_place k && nat_lt 0 (digits_value 10 k) && nat_lt (digits_value 10 k) (2 ^ 64)
 
 -- ---- statics around places
+
+abbrev pub is_text : Data → Bool
+is_text (string t) = true
+is_text _ = false
 
 abbrev pub are_texts : Items → Bool
 are_texts no_items = true
@@ -89,37 +93,54 @@ is_limit _ = false
 
 -- a dom id, a position and a limit
 abbrev pub is_insert : Data → Bool
-is_insert (array (item (string id) (item at (item limit no_items)))) = is_position at && is_limit limit
+is_insert (array (item id (item at (item limit no_items)))) = is_text id && is_position at && is_limit limit
 is_insert _ = false
 
 abbrev pub are_inserts : Items → Bool
 are_inserts no_items = true
 are_inserts (item d ds) = is_insert d && are_inserts ds
 
+abbrev pub is_true : Data → Bool
+is_true (boolean b) = b
+is_true _ = false
+
 -- `true` after a reset
 abbrev pub is_reset : Items → Bool
 is_reset no_items = true
-is_reset (item (boolean true) no_items) = true
-is_reset _ = false
+is_reset (item d no_items) = is_true d
+is_reset (item d ds) = false
 
--- a name, an insert for each row, deletes, and `true` after a reset
-abbrev pub is_stream : Data → Items → Bool
-is_stream (array (item (string name) (item (array is) (item (array ks) reset)))) rs = are_inserts is && items_len is == items_len rs && are_texts ks && is_reset reset
-is_stream _ rs = false
+-- so many inserts
+abbrev pub inserts_fit : ℕ → Data → Bool
+inserts_fit n (array is) = are_inserts is && items_len is == n
+inserts_fit n _ = false
+
+-- the dom ids that are deleted
+abbrev pub is_text_list : Data → Bool
+is_text_list (array ks) = are_texts ks
+is_text_list _ = false
+
+-- a name, an insert for each of so many rows, deletes, and `true` after a reset
+abbrev pub is_stream : ℕ → Data → Bool
+is_stream n (array (item name (item is (item ks reset)))) = is_text name && inserts_fit n is && is_text_list ks && is_reset reset
+is_stream n _ = false
 
 -- a list without a stream has rows
 abbrev pub stream_fits : Option Data → Items → Bool
 stream_fits None no_items = false
 stream_fits None (item r rs) = true
-stream_fits (Some d) rs = is_stream d rs
+stream_fits (Some d) rs = is_stream (items_len rs) d
 
 -- the rows under `d`
 abbrev pub rows_in : Data → Items
 rows_in d = elim (option_and_then as_array (get (codes "d") d)) [ None ↦ no_items | Some rs ↦ rs ]
 
 -- the statics and the stream of a list go with its rows
+abbrev pub fit_rows : Data → Items → Bool
+fit_rows d rs = row_statics (get (codes "s") d) rs && stream_fits (get (codes "stream") d) rs
+
 abbrev pub list_fits : Data → Bool
-list_fits d = row_statics (get (codes "s") d) (rows_in d) && stream_fits (get (codes "stream") d) (rows_in d)
+list_fits d = fit_rows d (rows_in d)
 
 -- ---- nodes
 
@@ -169,7 +190,7 @@ is_node _ = false
 
 -- a name and a payload
 abbrev pub is_event : Data → Bool
-is_event (array (item (string name) (item payload no_items))) = is_plain payload
+is_event (array (item name (item payload no_items))) = is_text name && is_plain payload
 is_event _ = false
 
 abbrev pub are_events : Items → Bool
@@ -196,6 +217,11 @@ components_fit (Some _) = false
 abbrev pub without : List ℕ → Members → Members
 without k no_members = no_members
 without k (member l d ms) = if bytes_eq l k then without k ms else member l d (without k ms)
+
+-- the members with that of a key, where there is one
+abbrev pub with_member : List ℕ → Option Data → Members → Members
+with_member k None ms = ms
+with_member k (Some d) ms = put k d ms
 
 -- what is left of a diff without its components and its events
 abbrev pub root_in : Data → Data

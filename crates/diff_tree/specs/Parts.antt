@@ -4,7 +4,7 @@ use Rattle.std.specs.Fmt.{decimal}
 use Rattle.serde_json.specs.Data.{Data, null, number, unsigned, string, array, object, Items, no_items, item, Members, no_members, put}
 use Rattle.serde_json.specs.View.{view, items_of}
 use Rattle.text_core.specs.declared.by_key.KeyValue.{KeyValue}
-use Rattle.text_core.specs.Keyed.{entry, on_value}
+use Rattle.text_core.specs.Keyed.{on_value}
 use Rattle.diff_tree.specs.Spelling.{whole_number_json, texts_json, reset_json, Pushed, with_events, with_components, members_of}
 use Rattle.diff_tree.specs.declared.push.Push.{Push}
 use Rattle.diff_tree.specs.declared.stream.StreamPart.{StreamPart}
@@ -14,8 +14,9 @@ use Rattle.diff_tree.specs.declared.diff.Diff.{Diff}
 use Rattle.diff_tree.specs.declared.part.Part.{Part, out-Part}
 use Rattle.diff_tree.specs.declared.part.PartBody.{PartBody, out-PartBody}
 use Rattle.diff_tree.specs.declared.part.PlaceValue.{PlaceValue}
-use Rattle.diff_tree.specs.declared.part.PartBody.TheOpen.{Part-F, PartBody-F, PlaceValue-F}
-use Rattle.diff_tree.specs.declared.part.PartBody.TheFolds.{fold-Part, fold-PartBody, fold-PlaceValue}
+use Rattle.diff_tree.specs.declared.part.Row.{Row, out-Row}
+use Rattle.diff_tree.specs.declared.part.PartBody.TheOpen.{Part-F, PartBody-F, PlaceValue-F, Row-F}
+use Rattle.diff_tree.specs.declared.part.PartBody.TheFolds.{fold-Part, fold-PartBody, fold-PlaceValue, fold-Row}
 
 -- each place under its key
 abbrev pub places_json : List (KeyValue Data) → Members
@@ -50,47 +51,54 @@ with_stream None ms = ms
 with_stream (Some s) ms = put (codes "stream") (stream_data s) ms
 
 -- a row is the list of its places' values
-abbrev pub row_items : List (List Data) → Items
-row_items [] = no_items
-row_items (r ∷ rs) = item (array (items_of r)) (row_items rs)
+abbrev pub rows_items : List Items → Items
+rows_items [] = no_items
+rows_items (r ∷ rs) = item (array r) (rows_items rs)
 
 -- one level, with what is inside already seen
-abbrev pub body_step : PartBody-F Members Data Data → Members
+abbrev pub body_step : PartBody-F Members Data Data Items → Members
 body_step (PartBody-F.Places es) = places_json es
-body_step (PartBody-F.List rs stream) = put (codes "d") (array (row_items rs)) (with_stream stream no_members)
+body_step (PartBody-F.List rs stream) = put (codes "d") (array (rows_items rs)) (with_stream stream no_members)
 
-abbrev pub place_step : PlaceValue-F Members Data Data → Data
+abbrev pub place_step : PlaceValue-F Members Data Data Items → Data
 place_step (PlaceValue-F.Text t) = string t
 place_step (PlaceValue-F.Number n) = number (unsigned n)
 place_step (PlaceValue-F.Node d) = d
 
-abbrev pub part_step : Part-F Members Data Data → Data
+abbrev pub part_step : Part-F Members Data Data Items → Data
 part_step p = object (with_statics p.statics p.body)
 
+abbrev pub row_step : Row-F Members Data Data Items → Items
+row_step r = items_of r.values
+
 abbrev pub part_data : Part → Data
-part_data = fold-Part Members Data Data body_step place_step part_step
+part_data = fold-Part Members Data Data Items body_step place_step part_step row_step
 
 abbrev pub place_data : PlaceValue → Data
-place_data = fold-PlaceValue Members Data Data body_step place_step part_step
+place_data = fold-PlaceValue Members Data Data Items body_step place_step part_step row_step
 
 abbrev pub body_members : PartBody → Members
-body_members = fold-PartBody Members Data Data body_step place_step part_step
+body_members = fold-PartBody Members Data Data Items body_step place_step part_step row_step
+
+-- the values of a row
+abbrev pub row_data : Row → Items
+row_data = fold-Row Members Data Data Items body_step place_step part_step row_step
 
 -- the values of places, seen
 abbrev pub seen : List (KeyValue PlaceValue) → List (KeyValue Data)
 seen es = map (on_value place_data) es
 
--- the values of rows, seen
-abbrev pub rows_seen : List (List PlaceValue) → List (List Data)
-rows_seen rs = map (map place_data) rs
+-- rows, one after the other
+abbrev pub rows_data : List Row → Items
+rows_data rs = rows_items (map row_data rs)
 
 -- a node of these statics and places
 abbrev pub node_data : Option (List (List ℕ)) → List (KeyValue PlaceValue) → Data
 node_data st es = object (with_statics st (places_json (seen es)))
 
 -- a node of these statics and rows, and of the operations of a stream where it is one
-abbrev pub list_data : Option (List (List ℕ)) → List (List PlaceValue) → Option StreamPart → Data
-list_data st rs stream = object (put (codes "d") (array (row_items (rows_seen rs))) (with_statics st (with_stream stream no_members)))
+abbrev pub list_data : Option (List (List ℕ)) → List Row → Option StreamPart → Data
+list_data st rs stream = object (put (codes "d") (array (rows_data rs)) (with_statics st (with_stream stream no_members)))
 
 -- components under their numbers
 abbrev pub components_data : List ComponentPart → Members
@@ -123,9 +131,13 @@ body_of p = (out-Part p).body
 abbrev pub places_of : PartBody → Option (List (KeyValue PlaceValue))
 places_of b = places_in (out-PartBody b)
   where
-    places_in : PartBody-F PartBody PlaceValue Part → Option (List (KeyValue PlaceValue))
+    places_in : PartBody-F PartBody PlaceValue Part Row → Option (List (KeyValue PlaceValue))
     places_in (PartBody-F.Places es) = Some es
     places_in (PartBody-F.List rs stream) = None
+
+-- the values that a row is made of
+abbrev pub values_of : Row → List PlaceValue
+values_of r = (out-Row r).values
 
 -- what a diff is made of
 abbrev pub root_of : Diff → Part

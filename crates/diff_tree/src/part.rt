@@ -26,7 +26,11 @@ pub enum PartBody {
 }
 
 /// A row: a value for each of its places.
-pub type Row = Seq<PlaceValue>;
+#[cycle(part)]
+#[derive(Debug, Drop)]
+pub struct Row {
+    pub(crate) values: Seq<PlaceValue>,
+}
 
 /// What is sent for a place.
 #[cycle(part)]
@@ -101,5 +105,34 @@ impl Part {
     {
         let Part { statics, body } = self;
         (statics, body)
+    }
+}
+
+impl Row {
+    ghost use Rattle.std.specs.Prelude.{map};
+    ghost use Rattle.serde_json.specs.View.{items_of};
+    ghost use Rattle.diff_tree.specs.Parts.{row_data, place_data, values_of};
+
+    /// A row of the values of its places.
+    pub fn new(values: Seq<PlaceValue>) -> Row
+        ensures values { values_of result ≡ values }
+        ensures data { row_data result ≡ items_of (map place_data values) }
+    {
+        Row { values }
+    }
+
+    /// The values of its places.
+    pub fn values(&self) -> &[PlaceValue]
+        ensures { result.now ≡ values_of self.now }
+    {
+        self.values.as_slice()
+    }
+
+    /// The values of its places, given out.
+    pub fn into_values(self) -> Seq<PlaceValue>
+        ensures { result ≡ values_of self }
+    {
+        let Row { values } = self;
+        values
     }
 }

@@ -1,2 +1,5 @@
 pub mod Message
 pub mod View
+pub mod FrameData
+pub mod FrameLaws
+pub mod FrameGrammar
