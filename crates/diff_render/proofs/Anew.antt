@@ -20,10 +20,11 @@ use Rattle.ast_core.specs.declared.walk.Reads.{Reads}
 use Rattle.ast_core.specs.declared.expr.Expr.{Expr}
 use Rattle.assigns_track.specs.declared.tracked.Tracked.{Tracked}
 use Rattle.diff_tree.proofs.Order.{cons_at}
-use Rattle.diff_tree.specs.Parts.{places_json, rows_seen, seen}
+use Rattle.diff_tree.specs.Parts.{places_json, seen}
 use Rattle.diff_tree.specs.Spelling.{change_json, changes_json}
 use Rattle.diff_tree.specs.Tree.{Changes, Rows, text, write}
 use Rattle.diff_tree.specs.declared.part.PlaceValue.{PlaceValue}
+use Rattle.diff_tree.specs.declared.part.Row.{Row}
 use Rattle.doc_model.specs.Environment.{Env, bind, reading, same_reading}
 use Rattle.doc_model.specs.Evaluation.{Res, then_do, both, on_res, eval_expr, printed}
 use Rattle.doc_model.specs.Lean.{lean_place, lean_places, rows_change, unless_empty}
@@ -45,7 +46,7 @@ use Rattle.diff_render.specs.Scope.{AreScopes, alone, scope_in}
 use Rattle.diff_render.specs.Shown.{shown_at}
 use Rattle.diff_render.specs.Taken.{IsChoice, IsTaken, is_loop, looped, taken}
 use Rattle.diff_render.specs.Tracked.{HasSettled, IsNoted, bound_before, scope_now, scope_then}
-use Rattle.diff_render.specs.Values.{changes_seen, numbered_changes, option_seen, options_seen, rows_in}
+use Rattle.diff_render.specs.Values.{changes_seen, numbered_changes, option_seen, options_seen, rows_in, rows_seen}
 use Rattle.diff_render.specs.declared.choice.Choice.{Choice}
 use Rattle.diff_render.specs.declared.fault.RenderFault.{RenderFault}
 use Rattle.diff_render.specs.declared.print.Print.{Print}
@@ -357,7 +358,7 @@ module _ (t : Nodes) (k : ℕ) (a : Env) (as' : List (KeyValue Stored)) (vs : Va
       trace_place alone (trace alone k) a (place_in t y) ≡ Ok old → Remembers t a (print_view x.0) (place_in t y)
       → same_reading (reading a (deciding (place_in t y))) (reading b_of (deciding (place_in t y))) ≡ false → Lean t (trace alone k) b_of (place_in t y) old (x.1, kept.Rows x.2)
 
-  pub rows_again : (bound : List (List (KeyValue Stored))) (rows : List (List PlaceValue)) (prints_now : List (List Print)) (x : Print) (o : Option PlaceValue) (had : Bool) → Answers (AreScopes as' vs) (Ok bound) (looped b_of loop)
+  pub rows_again : (bound : List (List (KeyValue Stored))) (rows : List Row) (prints_now : List (List Print)) (x : Print) (o : Option PlaceValue) (had : Bool) → Answers (AreScopes as' vs) (Ok bound) (looped b_of loop)
       → ((envs : List Env) → AreScopes as' vs bound envs → Answers (AreWholeRows t envs (node_at t n)) (Ok (rows, prints_now)) (trace_rows (trace alone k) (node_at t n) envs))
       → had ≡ had_rows (print_view x) → ((qs rs : Rows) → had ≡ has_rows qs → rows_seen rows ≡ rows_in rs → option_seen o ≡ option_map change_json (rows_change (cut (node_at t n)) qs rs))
       → RowsAgain d (x, o, prints_now)

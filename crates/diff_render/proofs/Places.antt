@@ -2,7 +2,8 @@
 use Rattle.std.proofs.Common.{◌≡◌, ◌<◌, ◌≤◌, ◌+◌, ◌-◌, ◌⊎◌, inl, inr, arith, ℕ, zero, suc, List, [], ◌∷◌, ◌++◌, drop, get_or, length, map, Result, Ok, Err, Option, Some, None, Bool, true, false, refl, sym, ap, ◌∙◌, subst}
 use Rattle.std.proofs.Math.ListN.{drop_of_length-le}
 use Rattle.std.proofs.lemmas.List.{map-append}
-use Rattle.serde_json.specs.Data.{Data}
+use Rattle.serde_json.specs.Data.{Data, Items as JsonItems}
+use Rattle.serde_json.specs.View.{items_of as items_of_values}
 use Rattle.diff_tree.proofs.Order.{cons_at}
 use Rattle.text_core.specs.Escape.{escape_text}
 use Rattle.text_core.specs.declared.by_key.KeyValue.{KeyValue}
@@ -18,10 +19,11 @@ use Rattle.ast_core.specs.Syntax.{Nodes, Place, put, attribute, spread, for_plac
 use Rattle.ast_core.specs.declared.expr.Expr.{Expr}
 use Rattle.ast_core.specs.declared.pattern.Pattern.{Pattern}
 use Rattle.ast_core.specs.declared.walk.Reads.{Reads}
-use Rattle.diff_tree.specs.Parts.{place_data, rows_seen}
+use Rattle.diff_tree.specs.Parts.{place_data, row_data}
 use Rattle.diff_tree.specs.Spelling.{tree_json}
 use Rattle.diff_tree.specs.Tree.{Rows, text as tree_text}
 use Rattle.diff_tree.specs.declared.part.PlaceValue.{PlaceValue}
+use Rattle.diff_tree.specs.declared.part.Row.{Row}
 use Rattle.diff_tree.specs.declared.part.PlaceValue.TheVariants.{Text}
 use Rattle.doc_model.specs.Calls.{items_of}
 use Rattle.doc_model.specs.Environment.{Env, bind, reading}
@@ -43,7 +45,7 @@ use Rattle.diff_render.specs.Renders.{AreWhole, AreWholeRows, IsBranch, IsWhole}
 use Rattle.diff_render.specs.Scope.{AreScopes, alone, scope_in}
 use Rattle.diff_render.specs.Shown.{shown_at}
 use Rattle.diff_render.specs.Taken.{IsChoice, IsTaken, is_loop, looped, taken}
-use Rattle.diff_render.specs.Values.{rows_in, trees_seen, values_seen}
+use Rattle.diff_render.specs.Values.{rows_in, rows_seen, trees_seen, values_seen}
 use Rattle.diff_render.specs.declared.choice.Choice.{Choice}
 use Rattle.diff_render.specs.declared.fault.RenderFault.{RenderFault}
 use Rattle.diff_render.specs.declared.print.Print.{Print}
@@ -53,6 +55,7 @@ use Rattle.diff_render.specs.declared.print.Print.TheVariants as kept
 use Rattle.diff_render.proofs.Branches.{choice_raises, loop_branches_not, nothing_met, taken_met, taken_raises}
 use Rattle.diff_render.proofs.Passing.{fault_passes}
 use Rattle.diff_render.proofs.Puts.{text_seen}
+use Rattle.diff_render.proofs.Sent.{row_items_of}
 use Rattle.diff_render.proofs.Kept.{below, prints_more}
 use Rattle.diff_render.proofs.Progress.{Progress, RowProgress, begun_rows, ended, ended_rows, further, further_row, raised, raised_row}
 use Rattle.diff_render.proofs.Wholes.{rows_more, rows_print}
@@ -174,7 +177,7 @@ module _ (t : Nodes) (k : ℕ) (as' : List (KeyValue Stored)) (vs : Variables) (
           ∙ ap (on_res (met_rows (reading env (free_place loop)) (cut (node_at t b)))) q)
       (h envs are))
 
-  pub rows_told : (bound : List (List (KeyValue Stored))) (value : PlaceValue) (rows : List (List PlaceValue)) (printed_rows : List (List Print)) → Answers (AreScopes as' vs) (Ok bound) (looped env loop)
+  pub rows_told : (bound : List (List (KeyValue Stored))) (value : PlaceValue) (rows : List Row) (printed_rows : List (List Print)) → Answers (AreScopes as' vs) (Ok bound) (looped env loop)
       → ((envs : List Env) → AreScopes as' vs bound envs → Answers (AreWholeRows t envs (node_at t b)) (Ok (rows, printed_rows)) (trace_rows (trace alone k) (node_at t b) envs))
       → ((rs : Rows) → rows_seen rows ≡ rows_in rs → place_data value ≡ tree_json (rows_tree (cut (node_at t b)) rs))
       → Told t (trace alone k) env (place_in t d) (value, kept.Rows printed_rows)
@@ -241,28 +244,28 @@ places_told t k env ns items i values qs some past h =
     seen is = trees_seen (whole_places is)
 
 -- one row more
-pub rows_more_told : (t : Nodes) (go : Deeper Items) (all : List Env) (env : Env) (left : List Env) (body : Nodes) (rows after : List (List PlaceValue)) (row : List PlaceValue) (qs more : List (List Print)) (q : List Print)
+pub rows_more_told : (t : Nodes) (go : Deeper Items) (all : List Env) (env : Env) (left : List Env) (body : Nodes) (rows after : List Row) (row : Row) (values : List PlaceValue) (qs more : List (List Print)) (q : List Print)
     → RowProgress t go all (env ∷ left) body (λ rs. rows_in (whole_rows rs)) (rows_seen rows) (rows_view qs)
-    → Answers (AreWhole t env (places_in body)) (Ok (row, q)) (go env body) → after ≡ rows ++ row ∷ [] → more ≡ qs ++ q ∷ []
+    → Answers (AreWhole t env (places_in body)) (Ok (values, q)) (go env body) → row_data row ≡ items_of_values (map place_data values) → after ≡ rows ++ row ∷ [] → more ≡ qs ++ q ∷ []
     → RowProgress t go all left body (λ rs. rows_in (whole_rows rs)) (rows_seen after) (rows_view more)
-rows_more_told t go all env left body rows after row qs more q h told pushed printed_on =
+rows_more_told t go all env left body rows after row values qs more q h told made pushed printed_on =
     subst (λ vs. RowProgress t go all left body seen (rows_seen vs) (rows_view more)) (sym pushed)
     (subst (λ ps. RowProgress t go all left body seen (rows_seen (rows ++ row ∷ [])) (rows_view ps)) (sym printed_on)
-    (subst (λ vs. RowProgress t go all left body seen vs (rows_view (qs ++ q ∷ []))) (sym (map-append values_seen rows (row ∷ [])))
-    (subst (RowProgress t go all left body seen (rows_seen rows ++ values_seen row ∷ [])) (sym (rows_more qs q))
-    (further_row t go all env left body seen (rows_seen rows) (rows_view qs) told.0 (values_seen row) (prints_view q) h told.1 told.2.remembered (λ rs. ap (λ d. d ∷ seen rs) (sym told.2.values))))))
+    (subst (λ vs. RowProgress t go all left body seen vs (rows_view (qs ++ q ∷ []))) (sym (map-append row_data rows (row ∷ [])))
+    (subst (RowProgress t go all left body seen (rows_seen rows ++ row_data row ∷ [])) (sym (rows_more qs q))
+    (further_row t go all env left body seen (rows_seen rows) (rows_view qs) told.0 (row_data row) (prints_view q) h told.1 told.2.remembered (λ rs. ap (λ d. d ∷ seen rs) (sym (made ∙ ap items_of_values told.2.values ∙ row_items_of (whole_places told.0))))))))
   where
-    seen : ItemRows → List (List Data)
+    seen : ItemRows → List JsonItems
     seen rs = rows_in (whole_rows rs)
 
-pub rows_more_fault : (t : Nodes) (go : Deeper Items) (all : List Env) (env : Env) (left : List Env) (body : Nodes) (rows : List (List PlaceValue)) (qs : List (List Print)) (f : RenderFault)
+pub rows_more_fault : (t : Nodes) (go : Deeper Items) (all : List Env) (env : Env) (left : List Env) (body : Nodes) (rows : List Row) (qs : List (List Print)) (f : RenderFault)
     → RowProgress t go all (env ∷ left) body (λ rs. rows_in (whole_rows rs)) (rows_seen rows) (rows_view qs)
     → Answers (AreWhole t env (places_in body)) (Err f) (go env body) → Answers (AreWholeRows t all body) (Err f) (trace_rows go body all)
 rows_more_fault t go all env left body rows qs f h told =
     fault_passes (AreWhole t env (places_in body)) (AreWholeRows t all body) f (go env body) (trace_rows go body all)
     (λ e q. raised_row t go all env left body (λ rs. rows_in (whole_rows rs)) (rows_seen rows) (rows_view qs) e h q) told
 
-pub rows_done : (t : Nodes) (go : Deeper Items) (all : List Env) (body : Nodes) (rows : List (List PlaceValue)) (qs : List (List Print))
+pub rows_done : (t : Nodes) (go : Deeper Items) (all : List Env) (body : Nodes) (rows : List Row) (qs : List (List Print))
     → RowProgress t go all [] body (λ rs. rows_in (whole_rows rs)) (rows_seen rows) (rows_view qs) → Answers (AreWholeRows t all body) (Ok (rows, qs)) (trace_rows go body all)
 rows_done t go all body rows qs h =
     let w = ended_rows t go all body (λ rs. rows_in (whole_rows rs)) (rows_seen rows) (rows_view qs) h refl in
@@ -275,14 +278,14 @@ reads_at t (d ∷ ds) zero x h n at = subst (ReadsRight t) (sym at) h.0
 reads_at t (d ∷ ds) (suc i) x h n at = reads_at t ds i x h.1 (omega (arith, n)) at
 
 -- rows: at the beginning, and what is left at the end
-pub rows_begun : (t : Nodes) (go : Deeper Items) (envs left : List Env) (body : Nodes) (rows : List (List PlaceValue)) (qs : List (List Print)) → left ≡ envs → rows ≡ [] → qs ≡ []
+pub rows_begun : (t : Nodes) (go : Deeper Items) (envs left : List Env) (body : Nodes) (rows : List Row) (qs : List (List Print)) → left ≡ envs → rows ≡ [] → qs ≡ []
     → RowProgress t go envs left body (λ rs. rows_in (whole_rows rs)) (rows_seen rows) (rows_view qs)
 rows_begun t go envs left body rows qs same none blank =
     subst (λ l. RowProgress t go envs l body seen (rows_seen rows) (rows_view qs)) (sym same)
     (subst (λ vs. RowProgress t go envs envs body seen (rows_seen vs) (rows_view qs)) (sym none)
     (subst (λ ps. RowProgress t go envs envs body seen [] (rows_view ps)) (sym blank) (begun_rows t go envs body seen)))
   where
-    seen : ItemRows → List (List Data)
+    seen : ItemRows → List JsonItems
     seen rs = rows_in (whole_rows rs)
 
 pub none_left : {A : Type 0} (xs : List A) (n : ℕ) → n ≡ 0 → n ≡ length xs → xs ≡ []

@@ -4,13 +4,13 @@ use Rattle.std.specs.Ordering.{ordering_reverse, match_ordering}
 use Rattle.std.specs.declared.cmp.Ordering.{Ordering}
 use Rattle.std.specs.Cmp.Lexicographic.{slice_cmp, nat_list_cmp_total}
 use Rattle.std.proofs.lemmas.Map.Lookups.{exact_bytes}
-use Rattle.serde_json.specs.Data.{Data, string, Members, no_members, member, put}
+use Rattle.serde_json.specs.Data.{Data, Items, string, Members, no_members, member, put}
 use Rattle.text_core.specs.declared.by_key.KeyValue.{KeyValue}
 use Rattle.text_core.specs.Keyed.{entry, with_key}
 use Rattle.diff_tree.specs.declared.part.PlaceValue.{PlaceValue}
 use Rattle.diff_tree.specs.declared.part.Part.{Part}
 use Rattle.diff_tree.specs.declared.part.PlaceValue.TheVariants.{Text, rolls-Text, Node, rolls-Node}
-use Rattle.diff_tree.specs.Parts.{body_step, part_data, place_data, places_json, seen, place_step, part_step}
+use Rattle.diff_tree.specs.Parts.{body_step, part_data, place_data, places_json, row_step, seen, place_step, part_step}
 use Rattle.diff_tree.specs.declared.part.PartBody.TheOpen.{PlaceValue-F}
 use Rattle.diff_tree.specs.declared.part.PartBody.TheFolds.{fold-roll-PlaceValue}
 
@@ -76,7 +76,7 @@ places_put k v (e ∷ es) = by (order k e.key) refl (places_put k v es)
 
 -- a text and a node, seen
 pub text_seen : (t : List ℕ) → place_data (Text t) ≡ string t
-text_seen t = ap place_data (sym (rolls-Text t)) ∙ fold-roll-PlaceValue Members Data Data body_step place_step part_step (PlaceValue-F.Text t)
+text_seen t = ap place_data (sym (rolls-Text t)) ∙ fold-roll-PlaceValue Members Data Data Items body_step place_step part_step row_step (PlaceValue-F.Text t)
 
 pub node_seen : (p : Part) → place_data (Node p) ≡ part_data p
-node_seen p = ap place_data (sym (rolls-Node p)) ∙ fold-roll-PlaceValue Members Data Data body_step place_step part_step (PlaceValue-F.Node p)
+node_seen p = ap place_data (sym (rolls-Node p)) ∙ fold-roll-PlaceValue Members Data Data Items body_step place_step part_step row_step (PlaceValue-F.Node p)

@@ -8,16 +8,17 @@ use Rattle.std.specs.Cmp.Lexicographic.{slice_cmp}
 use Rattle.serde_json.specs.Data.{Data, array, object, item, Members, no_members, member, put}
 use Rattle.serde_json.specs.View.{items_of}
 use Rattle.text_core.specs.declared.by_key.KeyValue.{KeyValue}
-use Rattle.diff_tree.specs.Parts.{node_data, part_data, place_data, places_json, row_items, rows_seen, seen, list_data, with_statics}
+use Rattle.diff_tree.specs.Parts.{node_data, part_data, place_data, places_json, rows_items, seen, list_data, with_statics}
 use Rattle.diff_tree.specs.Spelling.{change_json, changes_json, row_json, rows_json, texts_json, tree_json, trees_json}
 use Rattle.diff_tree.specs.Tree.{Change, Changes, no_changes, skip, change, inner, Rows, no_rows, row, Trees, no_trees, tree, list, node, text, rows, write}
 use Rattle.diff_tree.specs.declared.part.Part.{Part}
 use Rattle.diff_tree.specs.declared.part.PlaceValue.{PlaceValue}
+use Rattle.diff_tree.specs.declared.part.Row.{Row}
 use Rattle.diff_tree.specs.declared.part.PlaceValue.TheVariants.{Node, Text}
 use Rattle.doc_model.specs.Lean.{is_empty, rows_change, unless_empty}
 use Rattle.doc_model.specs.Whole.{rows_tree}
 use Rattle.diff_render.specs.Again.{has_rows}
-use Rattle.diff_render.specs.Values.{changes_seen, numbered, numbered_changes, option_seen, options_seen, rows_in, trees_seen, values_seen}
+use Rattle.diff_render.specs.Values.{changes_seen, numbered, numbered_changes, option_seen, options_seen, rows_in, rows_seen, trees_seen, values_seen}
 use Rattle.diff_render.proofs.Puts.{node_seen, text_seen}
 
 -- values under their numbers are the members of a node
@@ -31,27 +32,27 @@ numbered_changed k (skip cs) = numbered_changed (suc k) cs
 numbered_changed k (change c cs) = ap (put (decimal k) (change_json c)) (numbered_changed (suc k) cs)
 
 -- rows
-row_items_of : (ts : Trees) → items_of (trees_seen ts) ≡ row_json ts
+pub row_items_of : (ts : Trees) → items_of (trees_seen ts) ≡ row_json ts
 row_items_of no_trees = refl
 row_items_of (tree t ts) = ap (item (tree_json t)) (row_items_of ts)
 
-rows_items_of : (rs : Rows) → row_items (rows_in rs) ≡ rows_json rs
+rows_items_of : (rs : Rows) → rows_items (rows_in rs) ≡ rows_json rs
 rows_items_of no_rows = refl
-rows_items_of (row ts rs) = ap (λ is. item (array is) (row_items (rows_in rs))) (row_items_of ts) ∙ ap (item (array (row_json ts))) (rows_items_of rs)
+rows_items_of (row ts rs) = ap (item (array (row_json ts))) (rows_items_of rs)
 
 -- a node of rows with statics, and one without
-pub list_seen : (st : List (List ℕ)) (rs : List (List PlaceValue)) (ss : Rows) → rows_seen rs ≡ rows_in ss → list_data (Some st) rs None ≡ tree_json (list st ss)
-list_seen st rs ss h = ap (λ l. object (put (codes "d") (array l) (put (codes "s") (array (texts_json st)) no_members))) (ap row_items h ∙ rows_items_of ss)
+pub list_seen : (st : List (List ℕ)) (rs : List Row) (ss : Rows) → rows_seen rs ≡ rows_in ss → list_data (Some st) rs None ≡ tree_json (list st ss)
+list_seen st rs ss h = ap (λ l. object (put (codes "d") (array l) (put (codes "s") (array (texts_json st)) no_members))) (ap rows_items h ∙ rows_items_of ss)
 
-pub rows_change_seen : (rs : List (List PlaceValue)) (ss : Rows) → rows_seen rs ≡ rows_in ss → list_data None rs None ≡ change_json (rows ss)
-rows_change_seen rs ss h = ap (λ l. object (put (codes "d") (array l) no_members)) (ap row_items h ∙ rows_items_of ss)
+pub rows_change_seen : (rs : List Row) (ss : Rows) → rows_seen rs ≡ rows_in ss → list_data None rs None ≡ change_json (rows ss)
+rows_change_seen rs ss h = ap (λ l. object (put (codes "d") (array l) no_members)) (ap rows_items h ∙ rows_items_of ss)
 
 -- there are rows where there are rows
 pub no_rows_seen : (rs : Rows) → [] ≡ rows_in rs → rs ≡ no_rows
 no_rows_seen no_rows h = refl
 no_rows_seen (row r rs) h = cc
 
-pub some_rows_seen : (x : List (List PlaceValue)) (rs : Rows) → (x ≡ [] → ⊥) → rows_seen x ≡ rows_in rs → has_rows rs ≡ true
+pub some_rows_seen : (x : List Row) (rs : Rows) → (x ≡ [] → ⊥) → rows_seen x ≡ rows_in rs → has_rows rs ≡ true
 some_rows_seen x (row r rs) n h = refl
 some_rows_seen [] no_rows n h = absurd (n refl)
 some_rows_seen (y ∷ ys) no_rows n h = cc

@@ -13,9 +13,10 @@ use Rattle.slot_compile.specs.Template.{Source, syntax_of, IsPlain}
 use Rattle.expr_eval.specs.declared.variables.Variables.{Variables}
 use Rattle.diff_tree.specs.Tree.{node}
 use Rattle.diff_tree.specs.Spelling.{tree_json, change_json, changes_json}
-use Rattle.diff_tree.specs.Parts.{part_data, place_data, rows_seen}
+use Rattle.diff_tree.specs.Parts.{part_data, place_data}
 use Rattle.diff_tree.specs.declared.part.Part.{Part}
 use Rattle.diff_tree.specs.declared.part.PlaceValue.{PlaceValue}
+use Rattle.diff_tree.specs.declared.part.Row.{Row}
 use Rattle.doc_model.specs.Environment.{Env, bind, inside}
 use Rattle.doc_model.specs.Evaluation.{Res}
 use Rattle.doc_model.specs.Scopes.{Chosen, Site}
@@ -35,7 +36,7 @@ use Rattle.diff_render.specs.Prints.{Prints, of_branch, Remembers, RemembersAll,
 use Rattle.diff_render.specs.Scope.{AreScopes, alone, scope_in, scope_of}
 use Rattle.diff_render.specs.Taken.{IsChoice}
 use Rattle.diff_render.specs.Tracked.{HasSettled, present}
-use Rattle.diff_render.specs.Values.{changes_seen, option_seen, options_seen, rows_in, trees_seen, values_seen}
+use Rattle.diff_render.specs.Values.{changes_seen, option_seen, options_seen, rows_in, rows_seen, trees_seen, values_seen}
 
 -- ---- a place and a node of a template, in a scope
 
@@ -65,7 +66,7 @@ pub record AreLean (template : Nodes) (env : Env) (ps : List Place) (before : It
   pub remembered : RemembersAll template env (prints_view r.1) ps
 
 -- the rows of a loop, with what is remembered of each
-pub record AreWholeRows (template : Nodes) (envs : List Env) (body : Nodes) (r : List (List PlaceValue) × List (List Print)) (rs : ItemRows) : Type 0 where
+pub record AreWholeRows (template : Nodes) (envs : List Env) (body : Nodes) (r : List Row × List (List Print)) (rs : ItemRows) : Type 0 where
   pub rows : rows_seen r.0 ≡ rows_in (whole_rows rs)
   pub remembered : RemembersRows template envs (rows_view r.1) body
 
@@ -104,7 +105,7 @@ GivesRow c as' vs bound body k r =
     Answers (AreWhole (syntax_of c) (inside (assigns_view bound) (scope_in as' vs)) (places_in (node_at (syntax_of c) body))) r
     (trace alone k (inside (assigns_view bound) (scope_in as' vs)) (node_at (syntax_of c) body))
 
-abbrev pub GivesRows : Source → Stored → Variables → List Stored → ℕ → ℕ → Result (List (List PlaceValue) × List (List Print)) RenderFault → Type 0
+abbrev pub GivesRows : Source → Stored → Variables → List Stored → ℕ → ℕ → Result (List Row × List (List Print)) RenderFault → Type 0
 GivesRows c as' vs bound body k r =
     (envs : List Env) → AreScopes as' vs bound envs
     → Answers (AreWholeRows (syntax_of c) envs (node_at (syntax_of c) body)) r (trace_rows (trace alone k) (node_at (syntax_of c) body) envs)

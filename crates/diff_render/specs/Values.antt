@@ -1,11 +1,12 @@
 -- The values of places, as they are sent.
 use Rattle.std.specs.Prelude.{ℕ, suc, List, [], ◌∷◌, map, Option, Some, None, option_map}
-use Rattle.serde_json.specs.Data.{Data, Members, no_members, put}
+use Rattle.serde_json.specs.Data.{Data, Items, Members, no_members, put}
 use Rattle.std.specs.Fmt.{decimal}
 use Rattle.diff_tree.specs.Tree.{Tree, Trees, no_trees, tree, Rows, no_rows, row, Change, Changes, no_changes, skip, change}
-use Rattle.diff_tree.specs.Spelling.{tree_json, change_json}
-use Rattle.diff_tree.specs.Parts.{place_data}
+use Rattle.diff_tree.specs.Spelling.{tree_json, change_json, row_json}
+use Rattle.diff_tree.specs.Parts.{place_data, row_data}
 use Rattle.diff_tree.specs.declared.part.PlaceValue.{PlaceValue}
+use Rattle.diff_tree.specs.declared.part.Row.{Row}
 
 -- the JSON values of trees, in order
 abbrev pub trees_seen : Trees → List Data
@@ -40,7 +41,10 @@ numbered_changes k [] = no_members
 numbered_changes k (None ∷ os) = numbered_changes (suc k) os
 numbered_changes k (Some d ∷ os) = put (decimal k) d (numbered_changes (suc k) os)
 
--- the JSON values of rows
-abbrev pub rows_in : Rows → List (List Data)
+-- the values of rows, one by one
+abbrev pub rows_in : Rows → List Items
 rows_in no_rows = []
-rows_in (row ts rs) = trees_seen ts ∷ rows_in rs
+rows_in (row ts rs) = row_json ts ∷ rows_in rs
+
+abbrev pub rows_seen : List Row → List Items
+rows_seen rs = map row_data rs

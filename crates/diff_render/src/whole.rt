@@ -2,7 +2,7 @@
 ghost use Rattle.std.specs.Prelude.{◌≡◌, IfOk, OnOk, option_map};
 ghost use Rattle.ast_core.specs.Places.{cut};
 ghost use Rattle.ast_core.specs.Syntax.{Nodes};
-ghost use Rattle.diff_tree.specs.Parts.{place_data, rows_seen};
+ghost use Rattle.diff_tree.specs.Parts.{place_data};
 ghost use Rattle.diff_tree.specs.Spelling.{change_json, tree_json};
 ghost use Rattle.diff_tree.specs.Tree.{Rows};
 ghost use Rattle.slot_compile.specs.Numbering.{ReadsRight, node_at, place_in};
@@ -14,7 +14,7 @@ ghost use Rattle.diff_render.specs.Answers.{Answers, Shows};
 ghost use Rattle.diff_render.specs.Renders.{GivesBranch, GivesNode, GivesPlace, GivesPlaces, GivesRow, GivesRows};
 ghost use Rattle.diff_render.specs.Scope.{scope_in};
 ghost use Rattle.diff_render.specs.Shown.{shown_at};
-ghost use Rattle.diff_render.specs.Values.{option_seen, rows_in};
+ghost use Rattle.diff_render.specs.Values.{option_seen, rows_in, rows_seen};
 
 use crate::RenderFault;
 use crate::choice::{Choice, choose};
@@ -157,13 +157,13 @@ impl<'a> Whole<'a> {
         let mut prints = Seq::new(alloc);
         'scopes: for scope in scopes.into_vec() {
             let (values, print) = self.row(alloc, variables, scope, body, levels)?;
-            rows.push(values)?;
+            rows.push(Row::new(values))?;
             prints.push(print)?;
         }
         Ok((rows, prints))
     }
 
-    // A row, in its scope.
+    // The values of a row, in its scope.
     #[cycle(whole)]
     fn row(
         self,
@@ -172,7 +172,7 @@ impl<'a> Whole<'a> {
         scope: Bindings,
         body: usize,
         levels: usize,
-    ) -> Result<(Row, Prints), RenderFault>
+    ) -> Result<(Seq<PlaceValue>, Prints), RenderFault>
         ensures row { GivesRow self.entry.compiled.now self.entry.assigns.now variables.old scope body levels result }
         ensures scope { OnOk result (variables.new ≡ variables.old) }
     {

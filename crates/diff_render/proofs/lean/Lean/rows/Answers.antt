@@ -3,7 +3,6 @@ use Rattle.ast_core.specs.ExprView.{expr_view}
 use Rattle.ast_core.specs.PatternView.{pattern_view}
 use Rattle.ast_core.specs.Places.{cut}
 use Rattle.ast_core.specs.Syntax.{for_place}
-use Rattle.diff_tree.specs.Parts.{rows_seen}
 use Rattle.diff_tree.specs.Spelling.{change_json}
 use Rattle.diff_tree.specs.Tree.{Rows}
 use Rattle.doc_model.specs.Lean.{rows_change}
@@ -15,7 +14,7 @@ use Rattle.diff_render.specs.Renders.{GivesRows}
 use Rattle.diff_render.specs.Scope.{AreScopes, scope_in}
 use Rattle.diff_render.specs.Taken.{looped}
 use Rattle.diff_render.specs.Tracked.{scope_then}
-use Rattle.diff_render.specs.Values.{option_seen, rows_in}
+use Rattle.diff_render.specs.Values.{option_seen, rows_in, rows_seen}
 use Rattle.diff_render.proofs.Anew.{rows_again, rows_again_fault, scopes_again_fault}
 use Rattle.diff_render.proofs.lean.Lean.rows.Goals as goal
 

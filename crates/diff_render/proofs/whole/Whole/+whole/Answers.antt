@@ -5,7 +5,6 @@ use Rattle.value_core.specs.declared.raise.Raise.TheVariants.{Deep}
 use Rattle.ast_core.specs.ExprView.{expr_view}
 use Rattle.ast_core.specs.PatternView.{pattern_view}
 use Rattle.ast_core.specs.Places.{places_in}
-use Rattle.diff_tree.specs.Parts.{rows_seen}
 use Rattle.ast_core.specs.Syntax.{for_place}
 use Rattle.doc_model.specs.Environment.{inside}
 use Rattle.doc_model.specs.Tracing.{trace, trace_place}
@@ -17,7 +16,7 @@ use Rattle.diff_render.specs.Prints.{rows_view}
 use Rattle.diff_render.specs.Renders.{AreWhole, IsWhole}
 use Rattle.diff_render.specs.Scope.{AreScopes, alone, scope_in}
 use Rattle.diff_render.specs.Taken.{IsTaken, looped, taken}
-use Rattle.diff_render.specs.Values.{rows_in}
+use Rattle.diff_render.specs.Values.{rows_in, rows_seen}
 use Rattle.diff_render.proofs.Places.{branch_told, branches, choice_fault, flat_told, none_taken, places_fault, places_more, places_told, none_left, reads_at, rows_begun, rows_done, rows_fault, rows_more_fault, rows_more_told, rows_told, scopes_fault}
 use Rattle.diff_render.proofs.Progress.{RowProgress}
 use Rattle.diff_render.proofs.Wholes.{node_made}
@@ -165,9 +164,9 @@ rows-scopes-preserved t c =
     record {
       same = c.in_ok-values.ensures.scope ∙ c.scopes.invariant.same;
       going = λ envs are.
-          rows_more_told s go envs env (map (λ bs. inside (assigns_view bs) (scope_in as' vs)) (into_iter_items c.next.new.self)) body c.scopes.rows c.push.new.self c.in_ok-values.values c.scopes.prints c.push-in-scopes.new.self c.in_ok-values.print
+          rows_more_told s go envs env (map (λ bs. inside (assigns_view bs) (scope_in as' vs)) (into_iter_items c.next.new.self)) body c.scopes.rows c.push.new.self c.new.result c.in_ok-values.values c.scopes.prints c.push-in-scopes.new.self c.in_ok-values.print
           (subst (λ l. RowProgress s go envs (map (λ bs. inside (assigns_view bs) (scope_in as' vs)) l) body (λ rs. rows_in (whole_rows rs)) (rows_seen c.scopes.rows) (rows_view c.scopes.prints)) c.in-Some.ensures.steps.0 (c.scopes.invariant.going envs are))
-          told c.in_ok-push.ensures.ok c.in_ok-push-2.ensures.ok;
+          told c.new.ensures.data c.in_ok-push.ensures.ok c.in_ok-push-2.ensures.ok;
       counted = omega (arith, ap length c.in-Some.ensures.steps.0, c.in-Some.ensures.steps.1, c.scopes.invariant.counted);
     }
 

@@ -2,7 +2,6 @@ use Rattle.std.proofs.Common.{◌≡◌, List, ◌+◌, ◌-◌, ◌*◌, drop, 
 use Rattle.std.specs.Vec.Iter.{into_iter_items, into_iter_len}
 use Rattle.value_core.specs.View.{assigns_view}
 use Rattle.ast_core.specs.Places.{places_in}
-use Rattle.diff_tree.specs.Parts.{rows_seen}
 use Rattle.doc_model.specs.Environment.{Env, inside}
 use Rattle.doc_model.specs.Tracing.{trace}
 use Rattle.doc_model.specs.Whole.{whole_places, whole_rows}
@@ -10,7 +9,7 @@ use Rattle.slot_compile.specs.Numbering.{node_at, place_in}
 use Rattle.slot_compile.specs.Template.{syntax_of}
 use Rattle.diff_render.specs.Prints.{prints_view, rows_view}
 use Rattle.diff_render.specs.Scope.{AreScopes, alone, scope_in}
-use Rattle.diff_render.specs.Values.{rows_in, trees_seen, values_seen}
+use Rattle.diff_render.specs.Values.{rows_in, rows_seen, trees_seen, values_seen}
 use Rattle.diff_render.proofs.Progress.{Progress, RowProgress}
 use Rattle.diff_render.proofs.whole.Whole.+whole.Given as goal
 
