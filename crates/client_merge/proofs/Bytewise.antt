@@ -1,21 +1,12 @@
 -- What a client makes of bytes, by what they spell.
-use Rattle.std.proofs.Common.{◌≡◌, ℕ, List, map, Option, Some, None, Bool, true, false, if◌then◌else◌, refl, ap, ◌∙◌}
+use Rattle.std.proofs.Common.{◌≡◌, ℕ, List, Option, Some, None, Bool, true, false, if◌then◌else◌, refl}
 use Rattle.std.specs.Str.{is_utf8}
 use Rattle.serde_json.specs.Data.{Data}
 use Rattle.serde_json.specs.Read.{read}
 use Rattle.diff_tree.specs.Tree.{Tree}
 use Rattle.diff_tree.specs.Client.{and_then}
-use Rattle.diff_tree.specs.Parts.{diff_data}
-use Rattle.wire_v2.specs.declared.frame.Frame.{Frame}
-use Rattle.wire_v2.specs.declared.frame.FrameBody.{FrameBody}
-use Rattle.wire_v2.specs.declared.frame.FrameBody.TheVariants as body
-use Rattle.wire_v2.specs.FrameData.{pushed_of, event_name, payload_data, frame_data, carries_diff}
 use Rattle.wire_v2.specs.FrameGrammar.{is_frame, SpellsFrame}
-use Rattle.client_merge.specs.Reading.{tree_of}
-use Rattle.client_merge.specs.Page.{merged_page}
-use Rattle.client_merge.specs.Frames.{page_with, after_event, after_frame, client_reads}
-use Rattle.client_merge.specs.Bodies.{after_body}
-use Rattle.client_merge.proofs.Events.{page_back}
+use Rattle.client_merge.specs.Frames.{after_frame, client_reads}
 
 -- bytes that spell a frame are read as that frame
 pub reads_spelled : (bytes : List ℕ) (d : Data) → SpellsFrame bytes d → (held : Option Tree) → client_reads held bytes ≡ after_frame held d
@@ -36,17 +27,3 @@ reads_none bytes h held = by (is_utf8 bytes) refl
     by : (b : Bool) → is_utf8 bytes ≡ b → and_then (if b then and_then (read bytes) (λ d. if is_frame d then Some d else None) else None) (after_frame held) ≡ None
     by true u = found (read bytes) u refl
     by false u = refl
-
--- a frame is taken as its body
-pub body_taken : (held : Option Tree) (b : FrameBody) → carries_diff b ≡ true → after_event held (event_name b) (payload_data b) ≡ after_body held b
-body_taken held body.Empty h = refl
-body_taken held (body.Rendered t es) h = ap (λ d. page_with (tree_of d)) (page_back (diff_data t) (map pushed_of es) h)
-body_taken held (body.Changed d es) h = ap (λ x. page_with (merged_page held x)) (page_back (diff_data d) (map pushed_of es) h)
-body_taken held (body.Refusal reason) h = refl
-body_taken held body.NoCids h = refl
-body_taken held (body.Pushed d es) h = ap (λ x. page_with (merged_page held x)) (page_back (diff_data d) (map pushed_of es) h)
-body_taken held body.Closed h = refl
-body_taken held (body.Faulted reason) h = refl
-
-pub frame_taken : (bytes : List ℕ) (f : Frame) → SpellsFrame bytes (frame_data f) → carries_diff f.body ≡ true → (held : Option Tree) → client_reads held bytes ≡ after_body held f.body
-frame_taken bytes f spells h held = reads_spelled bytes (frame_data f) spells held ∙ body_taken held f.body h

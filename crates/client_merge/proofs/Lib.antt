@@ -2,6 +2,8 @@ pub mod Changes
 pub mod Gathered
 pub mod Members
 pub mod Views
+pub mod Rows
+pub mod Sent
 pub mod Loops
 pub mod Numbers
 pub mod Applies

@@ -10,19 +10,20 @@ use Rattle.diff_tree.specs.declared.part.PlaceValue.{PlaceValue}
 use Rattle.client_merge.specs.Reading.{number_of, trees_of}
 use Rattle.client_merge.specs.Held.{held_tree, held_trees, trees_in}
 use Rattle.client_merge.specs.Planned.{gathered}
-use Rattle.client_merge.proofs.Members.{readings, unstatic, node_trees, inner_unwritten, without_s, trees_are}
+use Rattle.client_merge.proofs.Members.{readings, unstatic, node_trees, without_s, trees_are}
+use Rattle.client_merge.proofs.Sent.{inner_unwritten}
 use Rattle.client_merge.proofs.Changes.{tree_set}
 use Rattle.client_merge.proofs.Views.{held-Node, trees_set, count_held}
 use Rattle.client_merge.proofs.Loops.{Taking, taking_first, take_none, take_unfit, take_on, take_last, taking_count}
 use Rattle.client_merge.proofs.Applies.{counted_on, none_left}
 use Rattle.client_merge.proofs.take.+take.Goals as goal
 
-pub take_node-returns-in_err-places-clause-bad : goal.take_node-returns-in_err-places-clause-bad
-take_node-returns-in_err-places-clause-bad t c = λ bad.
+pub take_place_node-returns-in_err-places-clause-bad : goal.take_place_node-returns-in_err-places-clause-bad
+take_place_node-returns-in_err-places-clause-bad t c = λ bad.
     node_trees c.args.statics c.args.places ∙ ap (option_map (node c.args.statics)) (c.in_err-places.ensures.bad (search rules))
 
-pub take_node-returns-clause-ok : goal.take_node-returns-clause-ok
-take_node-returns-clause-ok t c =
+pub take_place_node-returns-clause-ok : goal.take_place_node-returns-clause-ok
+take_place_node-returns-clause-ok t c =
     node_trees c.args.statics c.args.places ∙ ap (option_map (node c.args.statics)) c.in_ok-places.ensures.ok ∙ ap Some (sym (held-Node c.args.statics c.in_ok-places.places))
 
 pub take_part-returns-in-None-clause-bad : goal.take_part-returns-in-None-clause-bad
