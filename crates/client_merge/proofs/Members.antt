@@ -345,13 +345,16 @@ texts_back (t ∷ ts) = ap (option_map (λ l. t ∷ l)) (texts_back ts)
 pub under_statics : (st : List (List ℕ)) (ms : Members) → Rowless ms → change_of (object (put (codes "s") (array (texts_json st)) ms)) ≡ option_map (λ ts. write (node st ts)) (and_then (changes_in ms no_changes) trees_of)
 under_statics st ms rowless =
     let d : Data = array (texts_json st) in
-    by_places (put s_key d ms) (rowless_put s_key d ms (λ same. cc) rowless)
+    by_places (put s_key d ms) (rowless_put s_key d ms (λ same. absurd (other same)) rowless)
     ∙ ap (λ (o : Option Data). and_then (changes_in (put s_key d ms) no_changes) (node_change o)) (get_member-put s_key d ms)
     ∙ ap (λ (o : Option Changes). and_then o (node_change (Some d))) (skip_s d ms no_changes)
     ∙ then_ext (changes_in ms no_changes) (node_change (Some d)) (λ cs. option_map (λ ts. write (node st ts)) (trees_of cs))
     (λ cs. ap (λ (o : Option (List (List ℕ))). option_both (λ st ts. write (node st ts)) o (trees_of cs)) (texts_back st) ∙ some_left (trees_of cs))
     ∙ outside (changes_in ms no_changes)
   where
+    other : d_key ≡ s_key → ⊥
+    other same = let f : false ≡ true = ap (λ k. bytes_eq k s_key) same in true≢false (sym f)
+
     some_left : (q : Option Trees) → option_both (λ st ts. write (node st ts)) (Some st) q ≡ option_map (λ ts. write (node st ts)) q
     some_left None = refl
     some_left (Some ts) = refl
