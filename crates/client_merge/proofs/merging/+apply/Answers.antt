@@ -70,6 +70,32 @@ apply_all-changes-preserved-else-place-len-2 t c =
       counted = counted_on (into_iter_len c.changes.place-iterator) (into_iter_len c.next.new.self) (into_iter_items c.changes.place-iterator) c.in-Some.field-0 (into_iter_items c.next.new.self) c.changes.invariant.counted steps.0 steps.1;
     }
 
+pub apply_all-changes-preserved-else-place-len-3 : goal.apply_all-changes-preserved-else-place-len-3
+apply_all-changes-preserved-else-place-len-3 t c =
+    let ts = held_trees c.into_vec-places.result.items in
+    let all = planned_all (into_iter_items c.into_iter-place-iterator.result) in
+    let hs = c.changes.places.items in
+    let steps = c.in-Some.ensures.steps in
+    record {
+      kept = λ some.
+          let there = applied_there ts all c.in-Some.field-0 (into_iter_items c.next.new.self) hs (subst (λ (l : List PlaceChange). Applied ts all l (held_trees hs)) steps.0 (c.changes.invariant.kept some)) some in
+          absurd (omega (arith, there, c.len.ensures, c.if-place-len.false));
+      counted = counted_on (into_iter_len c.changes.place-iterator) (into_iter_len c.next.new.self) (into_iter_items c.changes.place-iterator) c.in-Some.field-0 (into_iter_items c.next.new.self) c.changes.invariant.counted steps.0 steps.1;
+    }
+
+pub apply_all-changes-preserved-else-place-len-4 : goal.apply_all-changes-preserved-else-place-len-4
+apply_all-changes-preserved-else-place-len-4 t c =
+    let ts = held_trees c.into_vec-places.result.items in
+    let all = planned_all (into_iter_items c.into_iter-place-iterator.result) in
+    let hs = c.changes.places.items in
+    let steps = c.in-Some.ensures.steps in
+    record {
+      kept = λ some.
+          let there = applied_there ts all c.in-Some.field-0 (into_iter_items c.next.new.self) hs (subst (λ (l : List PlaceChange). Applied ts all l (held_trees hs)) steps.0 (c.changes.invariant.kept some)) some in
+          absurd (omega (arith, there, c.len.ensures, c.if-place-len.false));
+      counted = counted_on (into_iter_len c.changes.place-iterator) (into_iter_len c.next.new.self) (into_iter_items c.changes.place-iterator) c.in-Some.field-0 (into_iter_items c.next.new.self) c.changes.invariant.counted steps.0 steps.1;
+    }
+
 pub apply_all-changes-preserved : goal.apply_all-changes-preserved
 apply_all-changes-preserved t c =
     let ts = held_trees c.into_vec-places.result.items in
