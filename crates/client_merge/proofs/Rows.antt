@@ -5,7 +5,8 @@ use Rattle.serde_json.specs.View.{items_of}
 use Rattle.diff_tree.specs.Tree.{Tree, list, Trees, no_trees, tree, count, Rows, no_rows, row, all_fit, Change, write, rows, option_both, merge_change, opened_rows}
 use Rattle.diff_tree.specs.Client.{and_then}
 use Rattle.diff_tree.specs.Spelling.{texts_json}
-use Rattle.diff_tree.specs.Parts.{place_data, row_data, rows_data, list_data, body_members, body_step, place_step, part_step, row_step}
+use Rattle.diff_tree.specs.Parts.{place_data, row_data, rows_data, list_data, values_of}
+use Rattle.diff_tree.proofs.Written.{row_data-out}
 use Rattle.diff_tree.specs.declared.part.PlaceValue.{PlaceValue}
 use Rattle.diff_tree.specs.declared.part.Row.{Row}
 use Rattle.diff_tree.specs.declared.stream.StreamPart.{StreamPart}
@@ -14,6 +15,7 @@ use Rattle.client_merge.specs.Held.{held_tree, held_trees, held_row, held_rows, 
 use Rattle.client_merge.specs.declared.held.HeldNode.{HeldNode}
 use Rattle.client_merge.specs.declared.held.HeldRow.{HeldRow}
 use Rattle.client_merge.proofs.Members.{texts_back}
+use Rattle.client_merge.proofs.Views.{count_held}
 
 -- ---- lists
 
@@ -179,3 +181,18 @@ values_first (Some ts) = refl
 
 pub values_last : (hs : List HeldNode) (all : Option Trees) → option_map (ahead hs) (values_sent []) ≡ all → all ≡ Some (held_trees hs)
 values_last hs all kept = sym kept ∙ ap Some (ahead-none hs)
+
+-- ---- a row
+
+abbrev placed_between : ℕ → Trees → Option Trees
+placed_between n ts = if suc (count ts) == n then Some ts else None
+
+-- a row is what its values are, where they are as many as there are places
+pub row_is : (n : ℕ) (r : Row) (vs : List PlaceValue) (hs : List HeldNode) (b : Bool) → vs ≡ values_of r → values_sent vs ≡ Some (held_trees hs) → (suc (length hs) == n) ≡ b
+    → row_sent n r ≡ (if b then Some (held_trees hs) else None)
+row_is n r vs hs b is sent fits =
+    ap (λ d. and_then (listed_row d) (placed_between n)) (row_data-out r)
+    ∙ ap (λ l. and_then (values_sent l) (placed_between n)) (sym is)
+    ∙ ap (λ (o : Option Trees). and_then o (placed_between n)) sent
+    ∙ ap (λ m. if suc m == n then Some (held_trees hs) else None) (count_held hs)
+    ∙ ap (λ (c : Bool). if c then Some (held_trees hs) else None) fits

@@ -1,4 +1,4 @@
-use Rattle.std.proofs.Common.{rules, ◌≡◌, ◌<◌, ◌≤◌, ◌^◌, ◌∷◌, [], ◌∙◌, List, length, sym, ap, subst, arith, true, false, Option, Some, None, is_some, option_map, codes}
+use Rattle.std.proofs.Common.{rules, ◌≡◌, ◌<◌, ◌≤◌, ◌^◌, ◌==◌, suc, ◌∷◌, [], ◌∙◌, List, length, sym, ap, subst, arith, true, false, Option, Some, None, is_some, option_map, codes}
 use Rattle.std.specs.Vec.Iter.{into_iter_items, into_iter_len}
 use Rattle.std.specs.Str.{bytes_eq}
 use Rattle.text_core.specs.declared.by_key.KeyValue.{KeyValue}
@@ -13,10 +13,11 @@ use Rattle.client_merge.specs.Reading.{number_of, trees_of, tree_of, written}
 use Rattle.client_merge.specs.Held.{held_tree, held_trees, held_rows, trees_in, rows_sent}
 use Rattle.client_merge.specs.Planned.{gathered}
 use Rattle.client_merge.proofs.Members.{readings, unstatic, node_trees, without_s, trees_are}
+use Rattle.client_merge.specs.declared.held.HeldRow.{HeldRow}
 use Rattle.client_merge.proofs.Sent.{inner_unwritten, sent_places, sent_list}
-use Rattle.client_merge.proofs.Rows.{list_tree, streamed, each, each_is, joined, row_on, row_bad, rows_first, rows_last, values_sent, ahead, value_on, value_bad, values_first, values_last}
+use Rattle.client_merge.proofs.Rows.{list_tree, streamed, each, each_is, joined, row_on, row_bad, rows_first, rows_last, row_is, values_sent, ahead, value_on, value_bad, values_first, values_last}
 use Rattle.client_merge.proofs.Changes.{tree_set}
-use Rattle.client_merge.proofs.Views.{held-Node, held-List, trees_set, count_held}
+use Rattle.client_merge.proofs.Views.{held-Node, held-List, row-is, trees_set, count_held}
 use Rattle.client_merge.proofs.Loops.{Taking, taking_first, take_none, take_unfit, take_on, take_last, taking_count}
 use Rattle.client_merge.proofs.Applies.{counted_on, none_left}
 use Rattle.client_merge.proofs.take.+take.Goals as goal
@@ -163,7 +164,7 @@ take_rows-returns-in_err-take_row-clause-bad t c = λ bad.
     let n = c.args.statics in
     let rs = into_iter_items c.into_iter-row-iterator.result in
     let gives : rs ≡ c.args.rows = c.into_iter-row-iterator.ensures.into_iter_gives.0 ∙ c.into_vec-row-items.ensures in
-    let r : Row = c.in-Some.field-0 in
+    let r : Row = c.in-Some.row in
     let rest : List Row = into_iter_items c.next.new.self in
     let steps = c.in-Some.ensures.steps in
     let kept : option_map (joined c.rows.taken) (each n (r ∷ rest)) ≡ each n rs = subst (λ (l : List Row). option_map (joined c.rows.taken) (each n l) ≡ each n rs) steps.0 c.rows.invariant.kept in
@@ -173,7 +174,7 @@ pub take_rows-rows-preserved : goal.take_rows-rows-preserved
 take_rows-rows-preserved t c =
     let n = c.args.statics in
     let rs = into_iter_items c.into_iter-row-iterator.result in
-    let r : Row = c.in-Some.field-0 in
+    let r : Row = c.in-Some.row in
     let rest : List Row = into_iter_items c.next.new.self in
     let steps = c.in-Some.ensures.steps in
     let h = c.in_ok-take_row.field-0 in
@@ -204,7 +205,7 @@ pub take_values-returns-in_err-take_value-clause-bad : goal.take_values-returns-
 take_values-returns-in_err-take_value-clause-bad t c = λ bad.
     let vs = into_iter_items c.into_iter-value-iterator.result in
     let gives : vs ≡ c.args.values = c.into_iter-value-iterator.ensures.into_iter_gives.0 ∙ c.into_vec-value-items.ensures in
-    let v : PlaceValue = c.in-Some.field-0 in
+    let v : PlaceValue = c.in-Some.value in
     let rest : List PlaceValue = into_iter_items c.next.new.self in
     let steps = c.in-Some.ensures.steps in
     let kept : option_map (ahead c.values.nodes) (values_sent (v ∷ rest)) ≡ values_sent vs = subst (λ (l : List PlaceValue). option_map (ahead c.values.nodes) (values_sent l) ≡ values_sent vs) steps.0 c.values.invariant.kept in
@@ -213,7 +214,7 @@ take_values-returns-in_err-take_value-clause-bad t c = λ bad.
 pub take_values-values-preserved : goal.take_values-values-preserved
 take_values-values-preserved t c =
     let vs = into_iter_items c.into_iter-value-iterator.result in
-    let v : PlaceValue = c.in-Some.field-0 in
+    let v : PlaceValue = c.in-Some.value in
     let rest : List PlaceValue = into_iter_items c.next.new.self in
     let steps = c.in-Some.ensures.steps in
     let h = c.in_ok-take_value.field-0 in
@@ -230,3 +231,16 @@ take_values-returns-clause-ok t c =
     let none : into_iter_items c.values.value-iterator ≡ [] = none_left (into_iter_len c.values.value-iterator) (into_iter_items c.values.value-iterator) c.values.invariant.counted c.in-None.ensures.steps.0 in
     sym (ap values_sent gives)
     ∙ values_last c.values.nodes (values_sent vs) (subst (λ (l : List PlaceValue). option_map (ahead c.values.nodes) (values_sent l) ≡ values_sent vs) none c.values.invariant.kept)
+
+pub take_row-returns-then-not-stand_between-clause-bad : goal.take_row-returns-then-not-stand_between-clause-bad
+take_row-returns-then-not-stand_between-clause-bad t c = λ bad.
+    let hs = c.in_ok-values.values in
+    let no : (suc (length hs) == c.args.statics) ≡ false = search (rules, c.stand_between.ensures, c.if-not-stand_between.true) in
+    row_is c.args.statics c.args.row c.into_values.result hs false c.into_values.ensures c.in_ok-values.ensures.ok no
+
+pub take_row-returns-clause-ok : goal.take_row-returns-clause-ok
+take_row-returns-clause-ok t c =
+    let hs = c.in_ok-values.values in
+    let made : HeldRow = record { values = hs } in
+    let fits : (suc (length hs) == c.args.statics) ≡ true = search (rules, c.stand_between.ensures, c.if-not-stand_between.false) in
+    row_is c.args.statics c.args.row c.into_values.result hs true c.into_values.ensures c.in_ok-values.ensures.ok fits ∙ ap Some (sym (row-is made))
