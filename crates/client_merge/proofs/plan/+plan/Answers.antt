@@ -15,8 +15,8 @@ use Rattle.client_merge.specs.declared.plan.PlaceChange.{PlaceChange}
 use Rattle.client_merge.proofs.Changes.{tree_at}
 use Rattle.client_merge.proofs.Members.{readings, inner_is, inner_only, part_of}
 use Rattle.client_merge.proofs.Sent.{unwritten_sent}
-use Rattle.client_merge.proofs.Views.{held-Text, held-Node, held-List, held_at, count_held, planned-Inner, placed-is}
-use Rattle.client_merge.proofs.Loops.{Planning, planning_first, plan_none, plan_unfit, plan_on, plan_last}
+use Rattle.client_merge.proofs.Views.{held-Text, held-Node, held-List, held_at, count_held, planned-Write, planned-Inner, placed-is}
+use Rattle.client_merge.proofs.Loops.{Planning, planning_first, plan_none, plan_unfit, plan_on, plan_last, writes_it}
 use Rattle.client_merge.proofs.Applies.{counted_on, none_left, node_merges, some_node}
 use Rattle.client_merge.proofs.plan.+plan.Goals as goal
 
@@ -26,6 +26,14 @@ plan_node-returns-in_err-take_node-in-Some-clause-bad t c = λ bad.
     let sent : part_data c.args.part ≡ sent_node (Some c.in-Some.statics) b = part_of c.args.part (Some c.in-Some.statics) b (sym c.in-Some.is ∙ c.into_parts-statics.ensures.statics) c.into_parts-statics.ensures.body in
     ap (λ d. merge_data (held_tree c.args.held.now) d) sent
     ∙ ap (merged (held_tree c.args.held.now)) (unwritten_sent c.in-Some.statics b (c.in_err-take_node-in-Some.ensures.bad (search rules)))
+
+pub plan_node-returns-in_ok-take_node-in-Some-clause-ok : goal.plan_node-returns-in_ok-take_node-in-Some-clause-ok
+plan_node-returns-in_ok-take_node-in-Some-clause-ok t c =
+    let b = c.into_parts-statics.result.1 in
+    let st = c.in-Some.statics in
+    let h = c.in_ok-take_node-in-Some.field-0 in
+    let sent : part_data c.args.part ≡ sent_node (Some st) b = part_of c.args.part (Some st) b (sym c.in-Some.is ∙ c.into_parts-statics.ensures.statics) c.into_parts-statics.ensures.body in
+    (planned-Write h ∙ sym (ap change_of sent ∙ writes_it (change_of (sent_node (Some st) b)) (held_tree h) c.in_ok-take_node-in-Some.ensures.ok), ap (λ o. is_some (merged (held_tree c.args.held.now) o)) (planned-Write h))
 
 pub plan_node-returns-in-None-clause-ok : goal.plan_node-returns-in-None-clause-ok
 plan_node-returns-in-None-clause-ok t c =
