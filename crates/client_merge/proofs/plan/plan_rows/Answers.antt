@@ -1,9 +1,9 @@
-use Rattle.std.proofs.Common.{rules, ◌≡◌, ◌∙◌, length, sym, ap, None, Some, option_map, is_some, true, refl}
+use Rattle.std.proofs.Common.{rules, ◌∙◌, sym, ap, None, option_map, is_some, refl}
 use Rattle.diff_tree.specs.Tree.{text, node, list, rows, opened_rows, merge_change}
 use Rattle.diff_tree.specs.Parts.{list_data}
 use Rattle.client_merge.specs.Reading.{change_of, merge_data}
 use Rattle.client_merge.specs.Held.{held_tree, held_trees, held_rows, rows_sent}
-use Rattle.client_merge.specs.Planned.{planned, merged}
+use Rattle.client_merge.specs.Planned.{merged}
 use Rattle.client_merge.proofs.Views.{held-Text, held-Node, held-List, planned-Rows}
 use Rattle.client_merge.proofs.Rows.{list_bare, streamed, rows_merge, rows_are, bare_only}
 use Rattle.client_merge.proofs.plan.plan_rows.Goals as goal

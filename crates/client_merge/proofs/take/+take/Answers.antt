@@ -1,20 +1,20 @@
-use Rattle.std.proofs.Common.{rules, ◌≡◌, ◌<◌, ◌≤◌, ◌^◌, ◌==◌, suc, ◌∷◌, [], ◌∙◌, List, length, sym, ap, subst, arith, true, false, Option, Some, None, is_some, option_map, codes}
+use Rattle.std.proofs.Common.{rules, ◌≡◌, ◌<◌, ◌≤◌, ◌^◌, ◌==◌, suc, ◌∷◌, [], ◌∙◌, List, length, sym, ap, subst, arith, true, false, Option, Some, option_map, codes}
 use Rattle.std.specs.Vec.Iter.{into_iter_items, into_iter_len}
 use Rattle.std.specs.Str.{bytes_eq}
 use Rattle.text_core.specs.declared.by_key.KeyValue.{KeyValue}
 use Rattle.text_core.specs.Keyed.{keys, ascend, without_key}
-use Rattle.diff_tree.specs.Tree.{node, list, Rows, Trees, Change, Changes, no_changes}
+use Rattle.diff_tree.specs.Tree.{node, list, Change, Changes, no_changes}
 use Rattle.diff_tree.specs.Client.{and_then}
 use Rattle.diff_tree.specs.Grammar.{is_place}
 use Rattle.diff_tree.specs.declared.part.PlaceValue.{PlaceValue}
 use Rattle.diff_tree.specs.declared.part.Row.{Row}
 use Rattle.diff_tree.specs.Parts.{list_data}
 use Rattle.client_merge.specs.Reading.{number_of, trees_of, tree_of, written}
-use Rattle.client_merge.specs.Held.{held_tree, held_trees, held_rows, trees_in, rows_sent}
+use Rattle.client_merge.specs.Held.{held_tree, held_trees, trees_in, rows_sent}
 use Rattle.client_merge.specs.Planned.{gathered}
 use Rattle.client_merge.proofs.Members.{readings, unstatic, node_trees, without_s, trees_are}
 use Rattle.client_merge.specs.declared.held.HeldRow.{HeldRow}
-use Rattle.client_merge.proofs.Sent.{inner_unwritten, sent_places, sent_list}
+use Rattle.client_merge.proofs.Sent.{inner_unwritten}
 use Rattle.client_merge.proofs.Rows.{list_tree, streamed, each, each_is, joined, row_on, row_bad, rows_first, rows_last, row_is, values_sent, ahead, value_on, value_bad, values_first, values_last}
 use Rattle.client_merge.proofs.Changes.{tree_set}
 use Rattle.client_merge.proofs.Views.{held-Node, held-List, row-is, trees_set, count_held}
