@@ -32,11 +32,11 @@ returns-in_ok-take_rows-in-List-clause-ok c =
       first,
       ap (λ o. is_some (merged (held_tree c.args.held.now) o)) first
           ∙ ap is_some (
-            ap (λ s. merge_data (held_tree c.args.held.now) (list_data None rs s)) c.in_ok-refuse_stream.ensures.ok
-            ∙ ap (λ u. merge_data u (list_data None rs None)) (ap held_tree c.in-List.is ∙ held-List st c.in-List.rows)
-            ∙ rows_merge st (held_rows c.in-List.rows) rs
-            ∙ ap (λ n. option_map (λ q. list st (opened_rows q)) (rows_sent n rs)) (sym c.len.ensures)
-            ∙ ap (option_map (λ q. list st (opened_rows q))) made
+          ap (λ s. merge_data (held_tree c.args.held.now) (list_data None rs s)) c.in_ok-refuse_stream.ensures.ok
+          ∙ ap (λ u. merge_data u (list_data None rs None)) (ap held_tree c.in-List.is ∙ held-List st c.in-List.rows)
+          ∙ rows_merge st (held_rows c.in-List.rows) rs
+          ∙ ap (λ n. option_map (λ q. list st (opened_rows q)) (rows_sent n rs)) (sym c.len.ensures)
+          ∙ ap (option_map (λ q. list st (opened_rows q))) made
           ),
     )
 
