@@ -1,3 +1,9 @@
-pub mod Flats
+pub mod Filled
+pub mod Found
 pub mod Joined
+pub mod Judging
+pub mod Plains
+pub mod Seen
+pub mod Standing
 pub mod StretchParts
+pub mod Tabled
