@@ -1,5 +1,6 @@
 -- Places that have their bodies by numbers, filled again: they are the places of the template.
 use Rattle.std.proofs.Common.{◌≡◌, ℕ, zero, suc, ◌+◌, List, [], ◌∷◌, ◌++◌, map, length, get_or, refl, sym, ap, ◌∙◌, subst, arith}
+use Rattle.ast_core.specs.ExprView.{expr_view}
 use Rattle.ast_core.specs.Free.{free_place}
 use Rattle.ast_core.specs.Places.{places_in, places_of, places_of_attributes}
 use Rattle.ast_core.specs.Reads.{assigns_in, variables_in}
@@ -31,7 +32,7 @@ place_is s (Put e) = refl
 place_is s (Attribute n e) = refl
 place_is s (Spread e) = refl
 place_is s (If t a b) = refl
-place_is s (Case e bs) = ap (case_place _) (clauses_are s bs)
+place_is s (Case e bs) = ap (case_place (expr_view e)) (clauses_are s bs)
 place_is s (For l p r k) = refl
 
 places_are : (s : Nodes) (ds : List Dynamic) → map (place_in s) ds ≡ map (filled s) (map numbered ds)

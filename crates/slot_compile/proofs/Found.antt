@@ -12,7 +12,7 @@ use Rattle.slot_compile.specs.Tables.{IsBodyOf}
 use Rattle.slot_compile.proofs.Filled.{inside_places, places_filled, places_read}
 use Rattle.slot_compile.proofs.Standing.{Stands, inside_number}
 use Rattle.slot_compile.proofs.StretchParts.{bodies_inside}
-use Rattle.slot_compile.proofs.Tabled.{entry_at, length-bodies}
+use Rattle.slot_compile.proofs.Tabled.{entry_at, length-bodies, none_before}
 
 pub all_counted : (s : Nodes) (t : Table) → entries t ≡ of_bodies 0 (all_bodies s) → length t.bodies ≡ length (all_bodies s)
 all_counted s t is = sym (length-map t.bodies stretch_of) ∙ ap length is ∙ length-bodies 0 (all_bodies s)
@@ -32,7 +32,7 @@ found s t b m is small at =
     let within : m < length (all_bodies s) = omega (arith, small, all_counted s t is) in
     of_stretch s (node_at s m) (suc m) b
     (ap stretch_of at ∙ sym (get_or-map stretch_of t.bodies m b blank small) ∙ ap (λ es. get_or es m blank) is
-    ∙ entry_at 0 (all_bodies s) m blank within ∙ ap (λ n. of_body n (node_at s m)) (omega arith))
+    ∙ entry_at 0 (all_bodies s) m blank within ∙ ap (λ n. of_body n (node_at s m)) (none_before m))
     (inside_number s m within)
 
 pub not_found : (s : Nodes) (t : Table) (b : Body) (m : ℕ) → entries t ≡ of_bodies 0 (all_bodies s) → length t.bodies ≤ m → stretch_of b ≡ blank → IsBodyOf s (node_at s m) b

@@ -14,12 +14,18 @@ Stands s = StandIn (all_bodies s)
 one_on : (k n : ℕ) → suc k + n ≡ k + suc n
 one_on k n = omega arith
 
+none_on : (k : ℕ) → k + 0 ≡ k
+none_on k = omega arith
+
+none_before : (k : ℕ) → 0 + k ≡ k
+none_before k = omega arith
+
 left_in : (all : List Nodes) (k : ℕ) (xs ys : List Nodes) → StandIn all k (xs ++ ys) → StandIn all k xs
 left_in all k [] ys h = tt
 left_in all k (x ∷ xs) ys h = (h.0, left_in all (suc k) xs ys h.1)
 
 right_in : (all : List Nodes) (k : ℕ) (xs ys : List Nodes) → StandIn all k (xs ++ ys) → StandIn all (k + length xs) ys
-right_in all k [] ys h = h
+right_in all k [] ys h = subst (λ n. StandIn all n ys) (sym (none_on k)) h
 right_in all k (x ∷ xs) ys h = subst (λ n. StandIn all n ys) (one_on k (length xs)) (right_in all (suc k) xs ys h.1)
 
 pub stands_left : (s : Nodes) (k : ℕ) (xs ys : List Nodes) → Stands s k (xs ++ ys) → Stands s k xs
@@ -42,7 +48,7 @@ Follow all k [] = Unit {0}
 Follow all k (b ∷ bs) = StandIn all (suc k) (bodies_in b) × Follow all (suc k) bs
 
 joined : (all : List Nodes) (k : ℕ) (xs ys : List Nodes) → Follow all k xs → Follow all (k + length xs) ys → Follow all k (xs ++ ys)
-joined all k [] ys f g = g
+joined all k [] ys f g = subst (λ n. Follow all n ys) (none_on k) g
 joined all k (x ∷ xs) ys f g = (f.0, joined all (suc k) xs ys f.1 (subst (λ n. Follow all n ys) (sym (one_on k (length xs))) g))
 
 -- from what follows the first and the rest
@@ -91,11 +97,11 @@ follow_whole s =
 
 follow_number : (all : List Nodes) (k : ℕ) (bs : List Nodes) (m : ℕ) → Follow all k bs → m < length bs → StandIn all (suc (k + m)) (bodies_in (get_or bs m no_nodes))
 follow_number all k [] m h small = absurd (omega (arith, small))
-follow_number all k (b ∷ bs) zero h small = h.0
+follow_number all k (b ∷ bs) zero h small = subst (λ n. StandIn all (suc n) (bodies_in b)) (sym (none_on k)) h.0
 follow_number all k (b ∷ bs) (suc m) h small =
     subst (λ n. StandIn all (suc n) (bodies_in (get_or bs m no_nodes))) (one_on k m) (follow_number all (suc k) bs m h.1 (omega (arith, small)))
 
 -- behind the body of a number stand those inside it
 pub inside_number : (s : Nodes) (m : ℕ) → m < length (all_bodies s) → Stands s (suc m) (bodies_in (node_at s m))
 inside_number s m small =
-    subst (λ n. StandIn (all_bodies s) (suc n) (bodies_in (node_at s m))) (omega arith) (follow_number (all_bodies s) 0 (all_bodies s) m (follow_whole s) small)
+    subst (λ n. StandIn (all_bodies s) (suc n) (bodies_in (node_at s m))) (none_before m) (follow_number (all_bodies s) 0 (all_bodies s) m (follow_whole s) small)

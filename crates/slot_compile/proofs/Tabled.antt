@@ -1,20 +1,29 @@
 -- The entries of a table, one body after the other.
 use Rattle.std.proofs.Common.{◌≡◌, ℕ, zero, suc, ◌+◌, ◌<◌, ◌≤◌, List, [], ◌∷◌, ◌++◌, length, get_or, drop, map, set, sum, refl, sym, ap, ◌∙◌, arith, append_assoc, append-nil, length-append}
-use Rattle.std.proofs.lemmas.List.{drop_all, length-map, map-set}
+use Rattle.std.proofs.lemmas.List.{drop_all, length-map, map-append, map-set}
 use Rattle.text_core.proofs.Keyed.{cons_at}
+use Rattle.ast_core.specs.declared.node.Clause.{Clause}
+use Rattle.ast_core.specs.NodeView.{clause_view, clauses_view}
 use Rattle.ast_core.specs.Places.{cut, places_in}
-use Rattle.ast_core.specs.Syntax.{Place, Nodes, no_nodes}
+use Rattle.ast_core.specs.Syntax.{Pattern, Place, Nodes, no_nodes}
+use Rattle.slot_compile.specs.declared.compiled.Branch.{Branch}
 use Rattle.slot_compile.specs.declared.flattening.Body.{Body}
 use Rattle.slot_compile.specs.declared.flattening.Table.{Table}
-use Rattle.slot_compile.specs.Gathering.{Stretch, count_places, entries, blank, stretch, stretch_of}
+use Rattle.slot_compile.specs.Gathering.{Stretch, blank, branch_of, count_places, entries, stretch, stretch_of}
 use Rattle.slot_compile.specs.Numbering.{all_bodies, bodies_at, bodies_in, place_count}
-use Rattle.slot_compile.specs.Stretches.{numbered_from, of_bodies, of_body}
+use Rattle.slot_compile.specs.Stretches.{clauses_at, numbered_from, of_bodies, of_body}
 
 one_on : (k n : ℕ) → suc k + n ≡ k + suc n
 one_on k n = omega arith
 
+none_on : (k : ℕ) → k + 0 ≡ k
+none_on k = omega arith
+
+pub none_before : (k : ℕ) → 0 + k ≡ k
+none_before k = omega arith
+
 pub bodies-append : (k : ℕ) (xs ys : List Nodes) → of_bodies k (xs ++ ys) ≡ of_bodies k xs ++ of_bodies (k + length xs) ys
-bodies-append k [] ys = refl
+bodies-append k [] ys = ap (λ n. of_bodies n ys) (sym (none_on k))
 bodies-append k (x ∷ xs) ys =
     ap (λ r. of_body k x ∷ r) (bodies-append (suc k) xs ys ∙ ap (λ n. of_bodies (suc k) xs ++ of_bodies n ys) (one_on k (length xs)))
 
@@ -58,18 +67,19 @@ length-numbered : (k : ℕ) (ps : List Place) → length (numbered_from k ps) �
 length-numbered k [] = refl
 length-numbered k (p ∷ ps) = ap suc (length-numbered (k + length (bodies_at p)) ps)
 
-counted : (k : ℕ) (bs : List Nodes) → count_places (of_bodies k bs) ≡ sum (map (λ ns. length (places_in ns)) bs)
+counted : (k : ℕ) (bs : List Nodes) → map (λ (e : Stretch). length e.places) (of_bodies k bs) ≡ map (λ ns. length (places_in ns)) bs
 counted k [] = refl
 counted k (b ∷ bs) =
-    ap (λ n. n + count_places (of_bodies (suc k) bs)) (length-numbered (suc k) (places_in b)) ∙ ap (λ n. length (places_in b) + n) (counted (suc k) bs)
+    ap (λ n. n ∷ map (λ (e : Stretch). length e.places) (of_bodies (suc k) bs)) (length-numbered (suc k) (places_in b))
+    ∙ ap (λ ns. length (places_in b) ∷ ns) (counted (suc k) bs)
 
 pub places_counted : (s : Nodes) (es : List Stretch) → es ≡ of_bodies 0 (all_bodies s) → count_places es ≡ place_count s
-places_counted s es is = ap count_places is ∙ counted 0 (all_bodies s)
+places_counted s es is = ap count_places is ∙ ap sum (counted 0 (all_bodies s))
 
 -- the entry of a number
 pub entry_at : (k : ℕ) (bs : List Nodes) (m : ℕ) (e : Stretch) → m < length bs → get_or (of_bodies k bs) m e ≡ of_body (k + m) (get_or bs m no_nodes)
 entry_at k [] m e small = absurd (omega (arith, small))
-entry_at k (b ∷ bs) zero e small = refl
+entry_at k (b ∷ bs) zero e small = ap (λ n. of_body n b) (sym (none_on k))
 entry_at k (b ∷ bs) (suc m) e small = entry_at (suc k) bs m e (omega (arith, small)) ∙ ap (λ n. of_body n (get_or bs m no_nodes)) (one_on k m)
 
 set_behind : (es : List Stretch) (x y : Stretch) (rest : List Stretch) → set ((es ++ x ∷ []) ++ rest) (length es) y ≡ es ++ y ∷ rest
@@ -86,10 +96,10 @@ pub number_stands : (t r u : Table) (bs : List Nodes) (n : ℕ) → n ≡ length
 number_stands t r u bs n count kept added = omega (arith, count, one_more t r kept, grown r u bs added)
 
 -- a body with those inside it: it is put where its number was kept
-pub body_added : (t r u v : Table) (ns : Nodes) (b : Body) (n : ℕ) → n ≡ length t.bodies → entries r ≡ entries t ++ blank ∷ []
-    → entries u ≡ entries r ++ of_bodies (length r.bodies) (bodies_in ns) → stretch_of b ≡ stretch (cut ns) (numbered_from (length r.bodies) (places_in ns)) → v.bodies ≡ set u.bodies n b
-    → entries v ≡ entries t ++ of_bodies (length t.bodies) (all_bodies ns)
-body_added t r u v ns b n count kept added gathered put =
+pub body_added : (t r u : Table) (bs : List Body) (ns : Nodes) (b : Body) (n : ℕ) → n ≡ length t.bodies → entries r ≡ entries t ++ blank ∷ []
+    → entries u ≡ entries r ++ of_bodies (length r.bodies) (bodies_in ns) → stretch_of b ≡ stretch (cut ns) (numbered_from (length r.bodies) (places_in ns)) → bs ≡ set u.bodies n b
+    → map stretch_of bs ≡ entries t ++ of_bodies (length t.bodies) (all_bodies ns)
+body_added t r u bs ns b n count kept added gathered put =
     let more : length r.bodies ≡ suc (length t.bodies) = one_more t r kept in
     let inside : List Stretch = of_bodies (suc (length t.bodies)) (bodies_in ns) in
     ap (map stretch_of) put ∙ map-set stretch_of u.bodies n b
@@ -97,3 +107,16 @@ body_added t r u v ns b n count kept added gathered put =
     ∙ ap (λ k. set ((entries t ++ blank ∷ []) ++ inside) k (stretch_of b)) (count ∙ sym (length-map t.bodies stretch_of))
     ∙ set_behind (entries t) blank (stretch_of b) inside
     ∙ ap (λ e. entries t ++ e ∷ inside) (gathered ∙ ap (λ k. stretch (cut ns) (numbered_from k (places_in ns))) more)
+
+-- one more clause of a case
+pub clauses_next : (s : List Clause) (i : ℕ) (x : Clause) (t u : Table) (bs cs : List Branch) (b : Branch) (z : List (Pattern × ℕ)) → i < length s → x ≡ get_or s i x → cs ≡ bs ++ b ∷ []
+    → branch_of b ≡ ((clause_view x).0, length t.bodies) → entries u ≡ entries t ++ of_bodies (length t.bodies) (all_bodies (clause_view x).1)
+    → map branch_of bs ++ clauses_at (length t.bodies) (clauses_view (drop i s)) ≡ z → map branch_of cs ++ clauses_at (length u.bodies) (clauses_view (drop (i + 1) s)) ≡ z
+clauses_next s i x t u bs cs b z within is pushed branch added inv =
+    let rest = clauses_view (drop (i + 1) s) in
+    ap (λ r. map branch_of r ++ clauses_at (length u.bodies) rest) pushed
+    ∙ ap (λ r. r ++ clauses_at (length u.bodies) rest) (map-append branch_of bs (b ∷ []))
+    ∙ append_assoc (map branch_of bs) (branch_of b ∷ []) (clauses_at (length u.bodies) rest)
+    ∙ ap (λ r. map branch_of bs ++ r ∷ clauses_at (length u.bodies) rest) branch
+    ∙ ap (λ n. map branch_of bs ++ ((clause_view x).0, length t.bodies) ∷ clauses_at n rest) (grown t u (all_bodies (clause_view x).1) added)
+    ∙ ap (λ r. map branch_of bs ++ clauses_at (length t.bodies) (clauses_view r)) (sym (cons_at s i x within is)) ∙ inv
