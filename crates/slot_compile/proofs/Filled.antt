@@ -1,16 +1,15 @@
 -- Places that have their bodies by numbers, filled again: they are the places of the template.
-use Rattle.std.proofs.Common.{◌≡◌, ℕ, zero, suc, ◌+◌, List, [], ◌∷◌, ◌++◌, map, length, get_or, refl, sym, ap, ◌∙◌, subst, arith}
+use Rattle.std.proofs.Common.{◌≡◌, ℕ, ◌+◌, List, [], ◌∷◌, ◌++◌, map, length, refl, sym, ap, ◌∙◌, subst}
 use Rattle.ast_core.specs.ExprView.{expr_view}
 use Rattle.ast_core.specs.Free.{free_place}
-use Rattle.ast_core.specs.Places.{places_in, places_of, places_of_attributes}
 use Rattle.ast_core.specs.Reads.{assigns_in, variables_in}
-use Rattle.ast_core.specs.Syntax.{Expr, Pattern, Place, put, attribute, spread, if_place, case_place, for_place, call, render_slot, live_call, stream_place, Node, text_node, element, at_place, Nodes, no_nodes, node, Attributes, no_attributes, written, valued, spread_of, module_of, Clauses, no_clauses, clause}
+use Rattle.ast_core.specs.Syntax.{Pattern, Place, put, attribute, spread, if_place, case_place, for_place, call, render_slot, live_call, stream_place, Nodes, no_nodes, node, Clauses, no_clauses, clause}
 use Rattle.slot_compile.specs.declared.compiled.Branch.{Branch}
 use Rattle.slot_compile.specs.declared.compiled.Dynamic.{Dynamic}
 use Rattle.slot_compile.specs.declared.compiled.Dynamic.TheVariants.{Put, Attribute, Spread, If, Case, For}
 use Rattle.slot_compile.specs.Gathering.{Numbered, alone, branch_of, case_numbers, for_number, if_numbers, numbered}
-use Rattle.slot_compile.specs.Numbering.{AllReadRight, ReadsRight, bodies_at, bodies_in, bodies_of, clause_bodies, clauses_in, else_bodies, else_in, node_at, place_in}
-use Rattle.slot_compile.specs.Stretches.{clauses_at, else_at, numbered_at, numbered_from, reads_at}
+use Rattle.slot_compile.specs.Numbering.{AllReadRight, ReadsRight, bodies_at, bodies_in, clause_bodies, clauses_in, else_bodies, else_in, node_at, place_in}
+use Rattle.slot_compile.specs.Stretches.{clauses_at, else_at, numbered_at, numbered_from}
 use Rattle.slot_compile.proofs.Standing.{Stands, stands_left, stands_right}
 
 abbrev clauses_with : Nodes → List (Pattern × ℕ) → Clauses
@@ -101,9 +100,10 @@ right_at s k (stream_place st x p ns) h = tt
 
 all_right : (s : Nodes) (k : ℕ) (ps : List Place) → Stands s k (inside_places ps) → AllRight s (numbered_from k ps)
 all_right s k [] h = tt
-all_right s k (p ∷ ps) h =
-    (right_at s k p (stands_left s k (bodies_at p) (inside_places ps) h),
-    all_right s (k + length (bodies_at p)) ps (stands_right s k (bodies_at p) (inside_places ps) h))
+all_right s k (p ∷ ps) h = (
+  right_at s k p (stands_left s k (bodies_at p) (inside_places ps) h),
+  all_right s (k + length (bodies_at p)) ps (stands_right s k (bodies_at p) (inside_places ps) h),
+)
 
 reads_right : (s : Nodes) (d : Dynamic) → Right s (numbered d) → ReadsRight s d
 reads_right s (Put e) h = tt

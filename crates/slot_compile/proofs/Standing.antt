@@ -1,5 +1,5 @@
 -- Which bodies stand in a template from a number on.
-use Rattle.std.proofs.Common.{◌≡◌, ℕ, zero, suc, ◌+◌, ◌<◌, List, [], ◌∷◌, ◌++◌, length, get_or, refl, sym, ap, ◌∙◌, subst, arith}
+use Rattle.std.proofs.Common.{◌≡◌, ℕ, zero, suc, ◌+◌, ◌<◌, List, [], ◌∷◌, ◌++◌, length, get_or, refl, sym, subst, arith}
 use Rattle.ast_core.specs.Syntax.{Place, put, attribute, spread, if_place, case_place, for_place, call, render_slot, live_call, stream_place, Node, text_node, element, at_place, Nodes, no_nodes, node, Clauses, no_clauses, clause}
 use Rattle.slot_compile.specs.Numbering.{all_bodies, bodies_at, bodies_in, bodies_of, clause_bodies, else_bodies, node_at}
 

@@ -14,9 +14,9 @@ use Rattle.ast_core.specs.NodeView.{attribute_on, attributes_view, node_view, no
 use Rattle.ast_core.specs.ExprView.{expr_view}
 use Rattle.ast_core.specs.Places.{closing, cut, cut_attributes, cut_node, join_statics, opening, places_in, places_of, places_of_attributes, written_text}
 use Rattle.slot_compile.specs.declared.flattening.Flattening.{Flattening}
-use Rattle.slot_compile.specs.Gathering.{Numbered, Stretch, alone, gathered, hole, stretch, text, then_on}
+use Rattle.slot_compile.specs.Gathering.{Stretch, alone, gathered, hole, stretch, text, then_on}
 use Rattle.slot_compile.specs.Numbering.{bodies_at, bodies_in, bodies_of}
-use Rattle.slot_compile.specs.Stretches.{numbered_at, numbered_from, of_attribute, of_attributes, of_body, of_node, of_nodes}
+use Rattle.slot_compile.specs.Stretches.{numbered_at, numbered_from, of_attribute, of_attributes, of_node, of_nodes}
 use Rattle.slot_compile.proofs.Filled.{inside_places}
 use Rattle.slot_compile.proofs.Joined.{join_assoc, nothing_on, then_assoc}
 use Rattle.slot_compile.proofs.Seen.{seen_element, seen_place}

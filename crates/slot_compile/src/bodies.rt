@@ -152,7 +152,11 @@ impl Table {
 
     // The bodies of clauses, in order.
     #[cycle(node)]
-    fn push_clauses(&mut self, alloc: Global, clauses: &Clauses) -> Result<Seq<Branch>, CompileFault>
+    fn push_clauses(
+        &mut self,
+        alloc: Global,
+        clauses: &Clauses,
+    ) -> Result<Seq<Branch>, CompileFault>
         ensures branches { IfOk result (λ bs. map branch_of bs ≡ clauses_at (length self.old.bodies) (clauses_view clauses.now)) }
         ensures entries { OnOk result (entries self.new ≡ entries self.old ++ of_bodies (length self.old.bodies) (clause_bodies (clauses_view clauses.now))) }
         ensures judges { Judges result (clauses_plain (clauses_view clauses.now)) }
@@ -177,12 +181,7 @@ impl Table {
 }
 
 // A condition with its bodies' numbers.
-fn if_of(
-    alloc: Global,
-    test: &Expr,
-    yes: usize,
-    no: Option<usize>,
-) -> Result<Dynamic, OutOfMemory>
+fn if_of(alloc: Global, test: &Expr, yes: usize, no: Option<usize>) -> Result<Dynamic, OutOfMemory>
     ensures { IfOk result (λ d. numbered d ≡ if_numbers (expr_view test.now) yes no) }
 {
     let test = formula_of(alloc, test)?;

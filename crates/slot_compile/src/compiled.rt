@@ -20,7 +20,10 @@ pub enum Dynamic {
     /// The text of a value.
     Put(Formula),
     /// An attribute of an element, with its name.
-    Attribute { name: Text, value: Formula },
+    Attribute {
+        name: Text,
+        value: Formula,
+    },
     /// The entries of a map as attributes of an element.
     Spread(Formula),
     /// One of two bodies; none where there is no else.

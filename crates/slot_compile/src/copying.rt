@@ -5,8 +5,8 @@ ghost use Rattle.ast_core.specs.PatternView.{pattern_view};
 ghost use Rattle.ast_core.specs.NamesIn.{part_view, pair_view, step_view, operand_view, call_view, pattern_pair_view};
 
 use ast_core::{
-    Expr, Exprs, Operand, Pair, Pairs, Parts, PathStep, Pattern, PatternPair, PatternPairs, Patterns,
-    PipeCall, TextPart,
+    Expr, Exprs, Operand, Pair, Pairs, Parts, PathStep, Pattern, PatternPair, PatternPairs,
+    Patterns, PipeCall, TextPart,
 };
 use std::alloc::Global;
 use text_core::{OutOfMemory, Seq};

@@ -1,11 +1,10 @@
-use Rattle.std.proofs.Common.{◌++◌, Some, List, [], length, refl, sym, ap, ◌∙◌}
+use Rattle.std.proofs.Common.{◌++◌, Some, List, length, refl, sym, ap, ◌∙◌}
 use Rattle.ast_core.specs.ExprView.{expr_view}
 use Rattle.ast_core.specs.NodeView.{clause_view, clauses_view, node_view, nodes_view, place_view}
 use Rattle.ast_core.specs.Places.{closing}
-use Rattle.ast_core.specs.Syntax.{Nodes}
 use Rattle.ast_core.specs.declared.node.Clause.{Clause}
 use Rattle.ast_core.specs.declared.node.Node.{Node}
-use Rattle.slot_compile.specs.Gathering.{Stretch, entries, gathered, if_numbers, text, then_on}
+use Rattle.slot_compile.specs.Gathering.{entries, gathered, if_numbers, text, then_on}
 use Rattle.slot_compile.specs.Numbering.{all_bodies, bodies_at, bodies_in, bodies_of, clause_bodies, else_bodies}
 use Rattle.slot_compile.specs.Stretches.{else_at, numbered_at, of_bodies, of_node, of_nodes}
 use Rattle.slot_compile.specs.Template.{all_plain, clauses_plain, node_plain}
@@ -52,13 +51,14 @@ pub push_nodes-nodes-preserved : goal.push_nodes-nodes-preserved
 push_nodes-nodes-preserved t c =
     let items = c.as_slice-node-items.result.now in
     let item = c.node-item.result in
-    let added = c.in_ok-push_node.ensures.entries in
-    (nodes_next items c.nodes.node-index item (length c.nodes.self.bodies) (length c.push_node.new.self.bodies) (gathered c.nodes.gathering) (gathered c.push_node.new.gathering) _
-    c.nodes-test.true c.node-item.is (grown c.nodes.self c.push_node.new.self (bodies_of (node_view item)) added) c.in_ok-push_node.ensures.gathered c.nodes.invariant.0,
-    next_added (λ (n : Node). bodies_of (node_view n)) (λ (ns : List Node). bodies_in (nodes_view ns)) (λ n ns. refl) items c.nodes.node-index item c.nodes.self c.push_node.new.self _
-    c.nodes-test.true c.node-item.is added c.nodes.invariant.1,
-    plain_next (λ (n : Node). node_plain (node_view n)) (λ (ns : List Node). all_plain (nodes_view ns)) (λ n ns. refl) items c.nodes.node-index item
-    c.nodes-test.true c.node-item.is c.in_ok-push_node.ensures.judges c.nodes.invariant.2)
+    let added = c.in_ok-push_node.ensures.entries in (
+      nodes_next items c.nodes.node-index item (length c.nodes.self.bodies) (length c.push_node.new.self.bodies) (gathered c.nodes.gathering) (gathered c.push_node.new.gathering) _
+          c.nodes-test.true c.node-item.is (grown c.nodes.self c.push_node.new.self (bodies_of (node_view item)) added) c.in_ok-push_node.ensures.gathered c.nodes.invariant.0,
+      next_added (λ (n : Node). bodies_of (node_view n)) (λ (ns : List Node). bodies_in (nodes_view ns)) (λ n ns. refl) items c.nodes.node-index item c.nodes.self c.push_node.new.self _
+          c.nodes-test.true c.node-item.is added c.nodes.invariant.1,
+      plain_next (λ (n : Node). node_plain (node_view n)) (λ (ns : List Node). all_plain (nodes_view ns)) (λ n ns. refl) items c.nodes.node-index item
+          c.nodes-test.true c.node-item.is c.in_ok-push_node.ensures.judges c.nodes.invariant.2,
+    )
 
 pub push_nodes-returns-clause-gathered : goal.push_nodes-returns-clause-gathered
 push_nodes-returns-clause-gathered t c =
@@ -87,10 +87,11 @@ pub push_clauses-clauses-preserved : goal.push_clauses-clauses-preserved
 push_clauses-clauses-preserved t c =
     let items = c.as_slice-clause-items.result.now in
     let item = c.clause-item.result in
-    let added = c.in_ok-push_clause.ensures.entries in
-    (clauses_next items c.clauses.clause-index item c.clauses.self c.push_clause.new.self c.clauses.branches c.push.new.self c.in_ok-push_clause.field-0 _
-    c.clauses-test.true c.clause-item.is c.in_ok-push.ensures.ok c.in_ok-push_clause.ensures.branch added c.clauses.invariant.0,
-    next_added (λ (x : Clause). all_bodies (clause_view x).1) (λ (xs : List Clause). clause_bodies (clauses_view xs)) (λ x xs. refl) items c.clauses.clause-index item c.clauses.self c.push_clause.new.self _
-    c.clauses-test.true c.clause-item.is added c.clauses.invariant.1,
-    plain_next (λ (x : Clause). all_plain (clause_view x).1) (λ (xs : List Clause). clauses_plain (clauses_view xs)) (λ x xs. refl) items c.clauses.clause-index item
-    c.clauses-test.true c.clause-item.is c.in_ok-push_clause.ensures.judges c.clauses.invariant.2)
+    let added = c.in_ok-push_clause.ensures.entries in (
+      clauses_next items c.clauses.clause-index item c.clauses.self c.push_clause.new.self c.clauses.branches c.push.new.self c.in_ok-push_clause.field-0 _
+          c.clauses-test.true c.clause-item.is c.in_ok-push.ensures.ok c.in_ok-push_clause.ensures.branch added c.clauses.invariant.0,
+      next_added (λ (x : Clause). all_bodies (clause_view x).1) (λ (xs : List Clause). clause_bodies (clauses_view xs)) (λ x xs. refl) items c.clauses.clause-index item c.clauses.self c.push_clause.new.self _
+          c.clauses-test.true c.clause-item.is added c.clauses.invariant.1,
+      plain_next (λ (x : Clause). all_plain (clause_view x).1) (λ (xs : List Clause). clauses_plain (clauses_view xs)) (λ x xs. refl) items c.clauses.clause-index item
+          c.clauses-test.true c.clause-item.is c.in_ok-push_clause.ensures.judges c.clauses.invariant.2,
+    )

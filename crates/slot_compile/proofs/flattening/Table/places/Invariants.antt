@@ -1,5 +1,5 @@
 use Rattle.std.proofs.Common.{◌≡◌, ◌+◌, drop, map}
-use Rattle.slot_compile.specs.Gathering.{count_places, entries, stretch_of}
+use Rattle.slot_compile.specs.Gathering.{count_places, stretch_of}
 use Rattle.slot_compile.proofs.flattening.Table.places.Given as goal
 
 abbrev pub invariant-bodies : goal.invariant-bodies
