@@ -429,18 +429,23 @@ fn what_is_not_compiled(rt: HostRuntime) -> Result<(), Fail> {
     Ok(())
 }
 
-// A number that no body has, and all places together.
+// How many bodies and places there are, and what a number has that no body has.
+fn counted(alloc: Global, nodes: Nodes) -> Result<[usize; 4], OutOfMemory> {
+    match compile(alloc, nodes)? {
+        Some(compiled) => {
+            let count = compiled.count();
+            let statics = compiled.statics(count).len();
+            let dynamics = compiled.dynamics(count).len();
+            Ok([count, compiled.places(), statics, dynamics])
+        }
+        None => Ok([0, 0, 0, 0]),
+    }
+}
+
 #[test]
 fn numbers(rt: HostRuntime) -> Result<(), Fail> {
     let alloc = rt.alloc();
-    match compile(alloc, nested(alloc)?)? {
-        Some(compiled) => {
-            assert_eq!(rt; compiled.count(), 9);
-            assert_eq!(rt; compiled.places(), 10);
-            assert_eq!(rt; compiled.statics(9).len(), 1);
-            assert_eq!(rt; compiled.dynamics(9).len(), 0);
-        }
-        None => fail!(rt; "not compiled"),
-    }
+    assert!(rt; counted(alloc, nested(alloc)?)? == [9, 10, 1, 0]);
+    assert!(rt; counted(alloc, Seq::new(alloc))? == [1, 0, 1, 0]);
     Ok(())
 }
