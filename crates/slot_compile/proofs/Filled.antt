@@ -8,7 +8,7 @@ use Rattle.slot_compile.specs.declared.compiled.Branch.{Branch}
 use Rattle.slot_compile.specs.declared.compiled.Dynamic.{Dynamic}
 use Rattle.slot_compile.specs.declared.compiled.Dynamic.TheVariants.{Put, Attribute, Spread, If, Case, For}
 use Rattle.slot_compile.specs.Gathering.{Numbered, alone, branch_of, case_numbers, for_number, if_numbers, numbered}
-use Rattle.slot_compile.specs.Numbering.{AllReadRight, ReadsRight, bodies_at, bodies_in, clause_bodies, clauses_in, else_bodies, else_in, node_at, place_in}
+use Rattle.slot_compile.specs.Numbering.{AllReadRight, ElseStands, HasContent, ReadsRight, bodies_at, bodies_in, clause_bodies, clauses_in, else_bodies, else_in, node_at, place_in}
 use Rattle.slot_compile.specs.Stretches.{clauses_at, else_at, numbered_at, numbered_from}
 use Rattle.slot_compile.proofs.Standing.{Stands, stands_left, stands_right}
 
@@ -76,8 +76,9 @@ places_filled s k ps ds is h = places_are s ds ∙ ap (map (filled s)) is ∙ al
         ap (λ q. q ∷ map (filled s) (numbered_from (k + length (bodies_at p)) ps)) (place_filled s k p (stands_left s k (bodies_at p) (inside_places ps) h))
         ∙ ap (λ qs. p ∷ qs) (all (k + length (bodies_at p)) ps (stands_right s k (bodies_at p) (inside_places ps) h))
 
--- what loops read
+-- what loops read, and that an else has content
 abbrev Right : Nodes → Numbered → Type 0
+Right s (if_numbers t a b) = ElseStands s b
 Right s (for_number p e r k) = (r.assigns ≡ assigns_in (free_place (for_place p e (node_at s k)))) × (r.variables ≡ variables_in (free_place (for_place p e (node_at s k))))
 Right s _ = Unit {0}
 
@@ -85,11 +86,15 @@ abbrev AllRight : Nodes → List Numbered → Type 0
 AllRight s [] = Unit {0}
 AllRight s (n ∷ ns) = Right s n × AllRight s ns
 
+else_right : (s : Nodes) (k : ℕ) (b : Nodes) → Stands s k (else_bodies b) → ElseStands s (else_at k b)
+else_right s k no_nodes h = tt
+else_right s k (node n ns) h = subst HasContent (sym h.0) tt
+
 right_at : (s : Nodes) (k : ℕ) (p : Place) → Stands s k (bodies_at p) → Right s (numbered_at k p)
 right_at s k (put e) h = tt
 right_at s k (attribute n e) h = tt
 right_at s k (spread e) h = tt
-right_at s k (if_place t a b) h = tt
+right_at s k (if_place t a b) h = else_right s (k + length (a ∷ bodies_in a)) b (stands_right s k (a ∷ bodies_in a) (else_bodies b) h)
 right_at s k (case_place e cs) h = tt
 right_at s k (for_place p e ns) h =
     (ap (λ b. assigns_in (free_place (for_place p e b))) (sym h.0), ap (λ b. variables_in (free_place (for_place p e b))) (sym h.0))
@@ -109,7 +114,7 @@ reads_right : (s : Nodes) (d : Dynamic) → Right s (numbered d) → ReadsRight 
 reads_right s (Put e) h = tt
 reads_right s (Attribute n e) h = tt
 reads_right s (Spread e) h = tt
-reads_right s (If t a b) h = tt
+reads_right s (If t a b) h = h
 reads_right s (Case e bs) h = tt
 reads_right s (For l p r k) h = h
 

@@ -78,8 +78,19 @@ first_evaluated (If t a b) = t
 first_evaluated (Case e bs) = e
 first_evaluated (For l p r k) = l
 
--- what a loop reads is what its place reads from outside
+-- nodes that are there
+abbrev pub HasContent : Nodes → Type 0
+HasContent no_nodes = ⊥
+HasContent (node n ns) = Unit {0}
+
+-- an else that has a number has content
+abbrev pub ElseStands : Nodes → Option ℕ → Type 0
+ElseStands s None = Unit {0}
+ElseStands s (Some k) = HasContent (node_at s k)
+
+-- what a loop reads is what its place reads from outside, and an else with a number has content
 abbrev pub ReadsRight : Nodes → Dynamic → Type 0
+ReadsRight s (If t a b) = ElseStands s b
 ReadsRight s (For l p r k) =
     (r.assigns ≡ assigns_in (free_place (place_in s (For l p r k)))) × (r.variables ≡ variables_in (free_place (place_in s (For l p r k))))
 ReadsRight s _ = Unit {0}
