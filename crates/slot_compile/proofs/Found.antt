@@ -9,10 +9,11 @@ use Rattle.slot_compile.specs.Gathering.{Stretch, entries, blank, numbered, stre
 use Rattle.slot_compile.specs.Numbering.{all_bodies, bodies_in, node_at}
 use Rattle.slot_compile.specs.Stretches.{numbered_from, of_bodies, of_body}
 use Rattle.slot_compile.specs.Tables.{IsBodyOf}
+use Rattle.slot_compile.proofs.Counts.{none_before}
 use Rattle.slot_compile.proofs.Filled.{inside_places, places_filled, places_read}
 use Rattle.slot_compile.proofs.Standing.{Stands, inside_number}
 use Rattle.slot_compile.proofs.StretchParts.{bodies_inside}
-use Rattle.slot_compile.proofs.Tabled.{entry_at, length-bodies, none_before}
+use Rattle.slot_compile.proofs.Tabled.{entry_at, length-bodies}
 
 pub all_counted : (s : Nodes) (t : Table) → entries t ≡ of_bodies 0 (all_bodies s) → length t.bodies ≡ length (all_bodies s)
 all_counted s t is = sym (length-map t.bodies stretch_of) ∙ ap length is ∙ length-bodies 0 (all_bodies s)

@@ -1,3 +1,4 @@
+pub mod Counts
 pub mod Elses
 pub mod Filled
 pub mod Found

@@ -2,6 +2,7 @@
 use Rattle.std.proofs.Common.{◌≡◌, ℕ, zero, suc, ◌+◌, ◌<◌, List, [], ◌∷◌, ◌++◌, length, get_or, refl, sym, subst, arith}
 use Rattle.ast_core.specs.Syntax.{Place, put, attribute, spread, if_place, case_place, for_place, call, render_slot, live_call, stream_place, Node, text_node, element, at_place, Nodes, no_nodes, node, Clauses, no_clauses, clause}
 use Rattle.slot_compile.specs.Numbering.{all_bodies, bodies_at, bodies_in, bodies_of, clause_bodies, else_bodies, node_at}
+use Rattle.slot_compile.proofs.Counts.{none_before, none_on, one_on}
 
 -- these bodies stand in a list from a number on
 abbrev StandIn : List Nodes → ℕ → List Nodes → Type 0
@@ -10,15 +11,6 @@ StandIn all k (b ∷ bs) = (get_or all k no_nodes ≡ b) × StandIn all (suc k) 
 
 abbrev pub Stands : Nodes → ℕ → List Nodes → Type 0
 Stands s = StandIn (all_bodies s)
-
-one_on : (k n : ℕ) → suc k + n ≡ k + suc n
-one_on k n = omega arith
-
-none_on : (k : ℕ) → k + 0 ≡ k
-none_on k = omega arith
-
-none_before : (k : ℕ) → 0 + k ≡ k
-none_before k = omega arith
 
 left_in : (all : List Nodes) (k : ℕ) (xs ys : List Nodes) → StandIn all k (xs ++ ys) → StandIn all k xs
 left_in all k [] ys h = tt

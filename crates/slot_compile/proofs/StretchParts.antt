@@ -17,6 +17,7 @@ use Rattle.slot_compile.specs.declared.flattening.Flattening.{Flattening}
 use Rattle.slot_compile.specs.Gathering.{Stretch, alone, gathered, hole, stretch, text, then_on}
 use Rattle.slot_compile.specs.Numbering.{bodies_at, bodies_in, bodies_of}
 use Rattle.slot_compile.specs.Stretches.{numbered_at, numbered_from, of_attribute, of_attributes, of_node, of_nodes}
+use Rattle.slot_compile.proofs.Counts.{none_on}
 use Rattle.slot_compile.proofs.Filled.{inside_places}
 use Rattle.slot_compile.proofs.Joined.{join_assoc, nothing_on, then_assoc}
 use Rattle.slot_compile.proofs.Seen.{seen_element, seen_place}
@@ -60,17 +61,14 @@ first_nodes (model.node n ns) = sym (join_assoc ([] ∷ []) (cut_node n) (cut ns
 pub nodes_first : (k : ℕ) (ns : List Node) → then_on (text []) (of_nodes k ns) ≡ of_nodes k ns
 nodes_first k ns = ap (λ c. stretch c (of_nodes k ns).places) (first_nodes (nodes_view ns))
 
-none_more : (k : ℕ) → k + 0 ≡ k
-none_more k = omega arith
-
 -- attributes have nothing inside
 attributes_alone : (k : ℕ) (xs : model.Attributes) (ps : List model.Place) → numbered_from k (places_of_attributes xs ++ ps) ≡ map alone (places_of_attributes xs) ++ numbered_from k ps
 attributes_alone k model.no_attributes ps = refl
 attributes_alone k (model.written n w xs) ps = attributes_alone k xs ps
 attributes_alone k (model.valued n e xs) ps =
-    ap (λ m. alone (model.attribute n e) ∷ numbered_from m (places_of_attributes xs ++ ps)) (none_more k) ∙ ap (λ r. alone (model.attribute n e) ∷ r) (attributes_alone k xs ps)
+    ap (λ m. alone (model.attribute n e) ∷ numbered_from m (places_of_attributes xs ++ ps)) (none_on k) ∙ ap (λ r. alone (model.attribute n e) ∷ r) (attributes_alone k xs ps)
 attributes_alone k (model.spread_of e xs) ps =
-    ap (λ m. alone (model.spread e) ∷ numbered_from m (places_of_attributes xs ++ ps)) (none_more k) ∙ ap (λ r. alone (model.spread e) ∷ r) (attributes_alone k xs ps)
+    ap (λ m. alone (model.spread e) ∷ numbered_from m (places_of_attributes xs ++ ps)) (none_on k) ∙ ap (λ r. alone (model.spread e) ∷ r) (attributes_alone k xs ps)
 attributes_alone k (model.module_of m xs) ps = attributes_alone k xs ps
 
 attributes_inside : (xs : model.Attributes) (ps : List model.Place) → inside_places (places_of_attributes xs ++ ps) ≡ inside_places ps
@@ -101,7 +99,7 @@ two_on : (k : ℕ) (xs ys : List model.Nodes) → (k + length xs) + length ys �
 two_on k xs ys = omega (arith, length-append xs ys)
 
 numbered-append : (k : ℕ) (ps qs : List model.Place) → numbered_from k (ps ++ qs) ≡ numbered_from k ps ++ numbered_from (k + length (inside_places ps)) qs
-numbered-append k [] qs = ap (λ n. numbered_from n qs) (sym (none_more k))
+numbered-append k [] qs = ap (λ n. numbered_from n qs) (sym (none_on k))
 numbered-append k (p ∷ ps) qs =
     ap (λ r. numbered_at k p ∷ r)
     (numbered-append (k + length (bodies_at p)) ps qs

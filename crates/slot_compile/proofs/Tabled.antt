@@ -12,15 +12,7 @@ use Rattle.slot_compile.specs.declared.flattening.Table.{Table}
 use Rattle.slot_compile.specs.Gathering.{Stretch, blank, branch_of, count_places, entries, stretch, stretch_of}
 use Rattle.slot_compile.specs.Numbering.{all_bodies, bodies_at, bodies_in, place_count}
 use Rattle.slot_compile.specs.Stretches.{clauses_at, numbered_from, of_bodies, of_body}
-
-one_on : (k n : ℕ) → suc k + n ≡ k + suc n
-one_on k n = omega arith
-
-none_on : (k : ℕ) → k + 0 ≡ k
-none_on k = omega arith
-
-pub none_before : (k : ℕ) → 0 + k ≡ k
-none_before k = omega arith
+use Rattle.slot_compile.proofs.Counts.{none_on, one_on}
 
 pub bodies-append : (k : ℕ) (xs ys : List Nodes) → of_bodies k (xs ++ ys) ≡ of_bodies k xs ++ of_bodies (k + length xs) ys
 bodies-append k [] ys = ap (λ n. of_bodies n ys) (sym (none_on k))

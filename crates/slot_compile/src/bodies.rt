@@ -126,27 +126,7 @@ impl Table {
                 let reads = place_reads(alloc, place)?;
                 Ok(for_of(alloc, list, pattern, reads, body)?)
             }
-            Place::Call {
-                template: _,
-                attributes: _,
-                content: _,
-                entries: _,
-            }
-            | Place::LiveCall {
-                attributes: _,
-                content: _,
-                entries: _,
-            }
-            | Place::RenderSlot {
-                value: _,
-                argument: _,
-            }
-            | Place::StreamFor {
-                stream: _,
-                id: _,
-                pattern: _,
-                body: _,
-            } => Err(CompileFault::NotYet),
+            _ => Err(CompileFault::NotYet),
         }
     }
 
