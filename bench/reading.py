@@ -9,7 +9,7 @@ import tempfile
 
 SIZES = (65_536, 262_144, 1_048_576)
 MOST_GROWTH = 5
-TRIES = 41
+TRIES = 7
 
 
 def fill(pieces, size):
