@@ -23,5 +23,5 @@ pub use node::{
 };
 pub use operators::{BinaryOp, Function, UnaryOp};
 pub use pattern::{Pattern, PatternPair, PatternPairs, Patterns};
-pub use reading::{assigns_read, reads};
+pub use reading::{expr_reads, place_reads, reads};
 pub use walk::Reads;

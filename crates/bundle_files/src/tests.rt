@@ -89,9 +89,9 @@ fn hello_is_loaded(rt: HostRuntime) -> Result<(), Fail> {
         mount,
         events,
     } = load(alloc, &mut folder)?;
-    assert_eq!(rt; compiled.dynamics().len(), 1);
+    assert_eq!(rt; compiled.dynamics(0).len(), 1);
     assert_eq!(rt;
-        compiled.statics().last().map(|text| text.as_str()),
+        compiled.statics(0).last().map(|text| text.as_str()),
         Some("</p>")
     );
     assert_eq!(rt; events.len(), 0);
@@ -140,6 +140,16 @@ fn templates(rt: HostRuntime) -> Result<(), Fail> {
         ("<b class={@n} title='x' {@m}>y</b>", None),
         ("<b class={@streams.m}>y</b>", Some(LoadFault::Refused)),
         ("<.card />", Some(LoadFault::Refused)),
+        ("<b :if={@n}>y</b>", None),
+        ("<%= if @n do %>x<% else %>{@m}<% end %>", None),
+        ("<%= case @n do %><% 1 -> %>x<% m -> %>{m}<% end %>", None),
+        ("<i :for={x <- @l}>{x}</i>", None),
+        ("<%= for x <- @l do %><b :if={x}>{@n}</b><% end %>", None),
+        (
+            "<%= if @n do %><.card /><% end %>",
+            Some(LoadFault::Refused),
+        ),
+        ("<i :for={x <- @l}>{@streams}</i>", Some(LoadFault::Refused)),
     ] {
         assert_eq!(rt; fault_of_template(alloc, template)?, fault, "of {template}");
     }

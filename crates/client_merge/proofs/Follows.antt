@@ -7,10 +7,11 @@ use Rattle.diff_tree.specs.Client.{PageTree, PageDiff, and_then, judged, dropped
 use Rattle.diff_tree.specs.Frame.{Frame, FrameBody, empty, rendered, changed, refusal, no_cids, push, closed, faulted, reference_json, event_of, payload_of, frame_json, held_diff, client_takes, client_takes_all}
 use Rattle.diff_tree.specs.Spelling.{Pushed, with_events, with_components, components_json, members_of, tree_json, trees_json, texts_json, changes_json, page_tree_json, page_diff_json}
 use Rattle.wire_v2.specs.Message.{head_of}
-use Rattle.wire_v2.specs.FrameGrammar.{is_whole, is_page, is_body, is_frame, without_events}
+use Rattle.wire_v2.specs.FrameGrammar.{is_whole, is_body, is_frame}
+use Rattle.diff_tree.specs.Grammar.{is_diff}
 use Rattle.client_merge.specs.Laws.{IsSmall, ChangesAreSmall, reach}
 use Rattle.client_merge.specs.Reading.{change_of, tree_of, written}
-use Rattle.client_merge.specs.Frames.{page_with, page_taken, page_changed, after_event, client_reads, client_reads_all}
+use Rattle.client_merge.specs.Frames.{without_events, page_with, page_taken, page_changed, after_event, client_reads, client_reads_all}
 use Rattle.client_merge.specs.Alike.{root_held, IsSmallPage, HoldsSmall, IsSmallDiff, IsSmallBody, frame_bytes, IsSmallFrame, AreSmallFrames, HoldsAlike, EndInChange, EndsInChange, BodyEndsInChange}
 use Rattle.client_merge.proofs.Changes.{Holds}
 use Rattle.client_merge.proofs.JsonBack.{tree_reads, change_reads, trimmed, trimmed_change, trim_merge, shifted}
@@ -109,7 +110,7 @@ refused_alike kept false h = (refl, h)
 body_alike : (k : ℕ) (kept : Option PageTree) (b : FrameBody) (r : Data) → HoldsSmall kept → IsSmallBody b → is_body (event_of b) r (payload_of b) ≡ true
     → HoldsAlike (client_takes k kept b) (after_event (root_held kept) (event_of b) (payload_of b))
 body_alike k kept empty r h s is = (refl, h)
-body_alike k kept (rendered p es) r h s is = rendered_alike k p es s (both_of (is_whole (page_tree_json p es)) (is_page (page_tree_json p es)) is).0
+body_alike k kept (rendered p es) r h s is = rendered_alike k p es s (both_of (is_whole (page_tree_json p es)) (is_diff (page_tree_json p es)) is).0
 body_alike k kept (changed d es) r h s is = changed_alike k kept d es h s
 body_alike k kept (refusal reason) r h s is = refused_alike kept (bytes_eq reason (codes "join crashed")) h
 body_alike k kept no_cids r h s is = (refl, h)

@@ -20,7 +20,7 @@ use Rattle.diff_tree.specs.Spelling.{tree_json, trees_json, change_json, changes
 use Rattle.client_merge.specs.Reading.{number_of, is_free, put_change, with_change, trees_of, node_change, change_of, changes_in}
 use Rattle.client_merge.specs.Laws.{IsSmall, AreSmall, ChangeIsSmall, ChangesAreSmall, reach}
 use Rattle.client_merge.proofs.Changes.{free_none, free_put, free_same, put_swap, merge_none, Holds}
-use Rattle.client_merge.proofs.Members.{s_key, is_s, then_ext, then_none, under_statics}
+use Rattle.client_merge.proofs.Members.{s_key, is_s, then_ext, then_none, d_key, under_statics, Rowless, rowless_put, by_places}
 
 -- ---- keys
 
@@ -241,6 +241,20 @@ no_s_json n (change c cs) fits =
     get_member-put_other s_key (decimal n) (change_json c) (changes_json (suc n) cs) (not_s (decimal n) (decimal_is_place n (omega arith)))
     ∙ no_s_json (suc n) cs (omega arith)
 
+not_d : (k : List ℕ) → is_place k ≡ true → (d_key ≡ k → ⊥)
+not_d k h same = let f : is_place k ≡ false = ap is_place (sym same) in true≢false (sym h ∙ f)
+
+rowless_trees : (n : ℕ) (ts : Trees) → n + count ts ≤ 2 ^ 64 → Rowless (trees_json n ts)
+rowless_trees n no_trees fits = tt
+rowless_trees n (tree t ts) fits =
+    rowless_put (decimal n) (tree_json t) (trees_json (suc n) ts) (λ same. absurd (not_d (decimal n) (decimal_is_place n (omega arith)) same)) (rowless_trees (suc n) ts (omega arith))
+
+rowless_changes : (n : ℕ) (cs : Changes) → n + reach cs ≤ 2 ^ 64 → Rowless (changes_json n cs)
+rowless_changes n no_changes fits = tt
+rowless_changes n (skip cs) fits = rowless_changes (suc n) cs (omega arith)
+rowless_changes n (change c cs) fits =
+    rowless_put (decimal n) (change_json c) (changes_json (suc n) cs) (λ same. absurd (not_d (decimal n) (decimal_is_place n (omega arith)) same)) (rowless_changes (suc n) cs (omega arith))
+
 -- ---- read back
 
 mutual
@@ -248,7 +262,7 @@ mutual
   tree_reads (text t) h = refl
   tree_reads (number n) h = absurd h
   tree_reads (node st ts) h =
-      under_statics st (trees_json 0 ts)
+      under_statics st (trees_json 0 ts) (rowless_trees 0 ts (omega (arith, h.0)))
       ∙ ap (λ (o : Option Changes). option_map (λ ts. write (node st ts)) (and_then o trees_of)) (trees_read 0 ts (omega (arith, h.0)) h.1)
       ∙ ap (λ cs. option_map (λ ts. write (node st ts)) (trees_of cs)) (shifted_zero (writes_from ts))
       ∙ ap (option_map (λ ts. write (node st ts))) (trees_back ts)
@@ -268,7 +282,8 @@ mutual
   pub change_reads : (c : Change) → ChangeIsSmall c → change_of (change_json c) ≡ Some (trimmed_change c)
   change_reads (write t) h = tree_reads t h
   change_reads (inner cs) h =
-      ap (λ (o : Option Data). and_then (changes_in (changes_json 0 cs) no_changes) (node_change o)) (no_s_json 0 cs (omega (arith, h.0)))
+      by_places (changes_json 0 cs) (rowless_changes 0 cs (omega (arith, h.0)))
+      ∙ ap (λ (o : Option Data). and_then (changes_in (changes_json 0 cs) no_changes) (node_change o)) (no_s_json 0 cs (omega (arith, h.0)))
       ∙ ap (λ (o : Option Changes). and_then o (node_change None)) (changes_read 0 cs (omega (arith, h.0)) h.1)
       ∙ ap (λ ds. Some (inner ds)) (shifted_zero (trimmed cs))
   change_reads (rows rs) h = absurd h

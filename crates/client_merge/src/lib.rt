@@ -16,7 +16,7 @@ mod tests;
 
 pub use client::Client;
 pub use fault::MergeFault;
-pub use held::HeldNode;
+pub use held::{HeldNode, HeldRow};
 pub use merging::merge;
 pub use showing::show;
 pub use take::take_tree;

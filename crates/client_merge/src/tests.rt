@@ -1,12 +1,13 @@
 //! Clients against whole trees and diffs.
-use crate::{Client, MergeFault};
-use diff_tree::{Part, read_diff};
+use crate::{Client, MergeFault, take_tree};
+use diff_tree::{Part, PlaceValue, Row, read_diff};
 use std::alloc::Global;
 use std::test::Fail;
-use text_core::{Bytes, HeldSink, OutOfMemory, Seq, Text, Wrote};
+use text_core::{Bytes, HeldSink, Names, OutOfMemory, Seq, Text, Wrote};
 
 fn part(alloc: Global, text: &str) -> Result<Part, Fail> {
-    Ok(read_diff(alloc, text)?.into_parts())
+    let (root, components, events) = read_diff(alloc, text)?.into_parts();
+    Ok(root)
 }
 
 fn shown(alloc: Global, client: &Client) -> Result<Text, OutOfMemory> {
@@ -74,6 +75,137 @@ fn a_client_takes_frames(rt: HostRuntime) -> Result<(), Fail> {
     Ok(())
 }
 
+// A tree of one list of rows of one value.
+const LIST: &str = "{\"0\":{\"d\":[[\"a\"],[\"b\"]],\"s\":[\"<\",\">\"]},\"s\":[\"(\",\")\"]}";
+
+#[test]
+fn a_client_takes_lists(rt: HostRuntime) -> Result<(), Fail> {
+    let alloc = rt.alloc();
+    let mut client = Client::empty();
+    client.take_whole(alloc, part(alloc, LIST)?)?;
+    for (text, fault, page) in [
+        ("{}", None, "(<a><b>)"),
+        ("{\"0\":{\"d\":[[\"c\"]]}}", None, "(<c>)"),
+        // Too long, too short, and of other lengths.
+        (
+            "{\"0\":{\"d\":[[\"x\",\"y\"]]}}",
+            Some(MergeFault::BadFrame),
+            "(<c>)",
+        ),
+        ("{\"0\":{\"d\":[[]]}}", Some(MergeFault::BadFrame), "(<c>)"),
+        // Values of places, where a list is held.
+        ("{\"0\":{\"0\":\"x\"}}", Some(MergeFault::BadFrame), "(<c>)"),
+        ("{\"0\":{}}", Some(MergeFault::BadFrame), "(<c>)"),
+        // The rows are gone, and come again with their statics.
+        ("{\"0\":\"\"}", None, "()"),
+        (
+            "{\"0\":{\"d\":[[\"c\"]]}}",
+            Some(MergeFault::BadFrame),
+            "()",
+        ),
+        (
+            "{\"0\":{\"d\":[[\"e\"]],\"s\":[\"<\",\">\"]}}",
+            None,
+            "(<e>)",
+        ),
+        // Other statics.
+        (
+            "{\"0\":{\"d\":[[\"f\",\"g\"],[\"h\",\"i\"]],\"s\":[\"[\",\"|\",\"]\"]}}",
+            None,
+            "([f|g][h|i])",
+        ),
+        ("{\"0\":{\"d\":[[\"j\",\"k\"]]}}", None, "([j|k])"),
+        // Nodes and lists in rows are whole.
+        (
+            "{\"0\":{\"d\":[[{\"0\":\"l\",\"s\":[\"{\",\"}\"]},{\"d\":[[\"m\"]],\"s\":[\"<\",\">\"]}]]}}",
+            None,
+            "([{l}|<m>])",
+        ),
+        (
+            "{\"0\":{\"d\":[[\"n\",{\"0\":\"l\"}]]}}",
+            Some(MergeFault::BadFrame),
+            "([{l}|<m>])",
+        ),
+        (
+            "{\"0\":{\"d\":[[\"n\",{\"d\":[[\"m\"]]}]]}}",
+            Some(MergeFault::BadFrame),
+            "([{l}|<m>])",
+        ),
+        // Rows, where a node is held.
+        ("{\"0\":{\"0\":\"o\",\"s\":[\"<\",\">\"]}}", None, "(<o>)"),
+        (
+            "{\"0\":{\"d\":[[\"p\"]]}}",
+            Some(MergeFault::BadFrame),
+            "(<o>)",
+        ),
+        ("{\"d\":[[\"p\"]]}", Some(MergeFault::BadFrame), "(<o>)"),
+        ("{\"0\":{\"0\":\"q\"}}", None, "(<q>)"),
+    ] {
+        let result = client.take_diff(alloc, part(alloc, text)?);
+        assert_eq!(rt; result.err(), fault, "at {text}");
+        assert_eq!(rt; shown(alloc, &client)?.as_str(), page, "at {text}");
+    }
+    Ok(())
+}
+
+#[test]
+fn a_client_takes_no_components_and_no_streams(rt: HostRuntime) -> Result<(), Fail> {
+    let alloc = rt.alloc();
+    let mut client = Client::empty();
+    client.take_whole(alloc, part(alloc, LIST)?)?;
+    for text in [
+        "{\"0\":1}",
+        "{\"0\":{\"d\":[[1]]}}",
+        "{\"0\":{\"d\":[[\"a\"]],\"stream\":[\"items\",[[\"items-1\",-1,null]],[]]}}",
+        "{\"0\":{\"d\":[],\"stream\":[\"items\",[],[]]}}",
+        "{\"0\":{\"d\":[],\"s\":[\"<\",\">\"],\"stream\":[\"items\",[],[]]}}",
+    ] {
+        let result = client.take_diff(alloc, part(alloc, text)?);
+        assert_eq!(rt; result.err(), Some(MergeFault::BadFrame), "at {text}");
+        assert_eq!(rt; shown(alloc, &client)?.as_str(), "(<a><b>)", "at {text}");
+    }
+    Ok(())
+}
+
+// Rows that a reader of diffs would not let through.
+#[test]
+fn rows_have_the_length_of_the_statics(rt: HostRuntime) -> Result<(), Fail> {
+    let alloc = rt.alloc();
+    for (statics, values, fault) in [
+        (2, 1, None),
+        (1, 0, None),
+        (2, 0, Some(MergeFault::BadFrame)),
+        (2, 2, Some(MergeFault::BadFrame)),
+        (0, 0, Some(MergeFault::BadFrame)),
+    ] {
+        let mut rows = Seq::new(alloc);
+        rows.push(row(alloc, values)?)?;
+        let list = Part::list(Some(blanks(alloc, statics)?), rows, None);
+        assert_eq!(rt;
+            take_tree(alloc, list).err(),
+            fault,
+            "at {statics} and {values}"
+        );
+    }
+    Ok(())
+}
+
+fn row(alloc: Global, values: usize) -> Result<Row, OutOfMemory> {
+    let mut row = Seq::new(alloc);
+    for _ in 0..values {
+        row.push(PlaceValue::Text(Text::new(alloc)))?;
+    }
+    Ok(Row::new(row))
+}
+
+fn blanks(alloc: Global, count: usize) -> Result<Names, OutOfMemory> {
+    let mut names = Seq::new(alloc);
+    for _ in 0..count {
+        names.push(Text::new(alloc))?;
+    }
+    Ok(names)
+}
+
 // What a client shows after the bytes of a frame, or why it did not take them.
 fn after(alloc: Global, client: &mut Client, frame: &str) -> Result<Text, OutOfMemory> {
     match client.take(alloc, frame.as_bytes()) {
@@ -106,6 +238,19 @@ fn a_client_takes_bytes(rt: HostRuntime) -> Result<(), Fail> {
         ),
         ("{", "bad frame"),
         ("[]", "bad frame"),
+        (
+            "[\"1\",null,\"lv:a\",\"diff\",{\"0\":{\"d\":[[\"e\"],[\"f\"]],\"s\":[\"\",\".\"]}}]",
+            "<e.f.>",
+        ),
+        (
+            "[\"1\",null,\"lv:a\",\"diff\",{\"0\":{\"d\":[[\"g\"]]},\"c\":{\"1\":{\"0\":\"h\"}}}]",
+            "bad frame",
+        ),
+        (
+            "[\"1\",null,\"lv:a\",\"diff\",{\"0\":{\"d\":[[\"g\"]]},\"e\":[[\"hi\",{}]]}]",
+            "<g.>",
+        ),
+        ("[\"1\",null,\"lv:a\",\"diff\",{\"0\":\"b\"}]", "<b>"),
         (
             "[\"1\",\"4\",\"lv:a\",\"phx_reply\",{\"response\":{},\"status\":\"ok\"}]",
             "<b>",

@@ -8,7 +8,7 @@ use Rattle.doc_model.specs.Process.{World, Page}
 use Rattle.doc_model.specs.Journal.{begin_standing, replay_journal, frames_from, spelled}
 use Rattle.doc_model.specs.Headline.{IsLinked, ClientFollows}
 use Rattle.doc_model.proofs.Journals.{all_frames_show}
-use Rattle.live_page.proofs.Streams.{no_streams}
+use Rattle.diff_render.proofs.Plains.{plain_no_streams}
 use Rattle.client_merge.specs.Laws.{IsSmall, AreSmall}
 use Rattle.client_merge.specs.Held.{page_of, pages_of}
 use Rattle.client_merge.specs.Frames.{client_reads_all}
@@ -26,7 +26,7 @@ once_none ss h = subst Once (sym h) tt
 
 is_linked : (w : World) → IsTextWorld w → IsLinked w
 is_linked w texts = record {
-  of_view = λ v. once_none (streams_in (w.template_of v)) (no_streams (w.template_of v) (texts.flat v));
+  of_view = λ v. once_none (streams_in (w.template_of v)) (plain_no_streams (w.template_of v) (texts.flat v));
   of_module = λ m. once_none (streams_in (w.site.root m)) (ap (λ s. streams_in (s.root m)) texts.calls_nothing);
 }
 

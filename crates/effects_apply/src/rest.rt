@@ -5,7 +5,7 @@ use machine_api::Actions;
 use std::alloc::Global;
 use text_core::Seq;
 use value_core::Values;
-use wire_v2::Pushes;
+use diff_tree::Pushes;
 
 /// What a message has done so far beside the assigns.
 #[derive(Debug, Drop)]

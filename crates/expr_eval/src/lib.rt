@@ -20,4 +20,4 @@ mod variables;
 pub use evaluate::{eval, eval_over};
 pub use fault::EvalFault;
 pub use judge::is_true;
-pub use variables::{Bindings, Variables};
+pub use variables::{Bindings, Variables, value_in};

@@ -92,7 +92,7 @@ fn greeting_app(alloc: Global) -> Result<Option<App<Greeting>>, OutOfMemory> {
 
 fn spelled(alloc: Global, sent: Result<Part, PageFault>) -> Result<Text, OutOfMemory> {
     match sent {
-        Ok(part) => write_diff(alloc, &Diff::new(part)),
+        Ok(part) => write_diff(alloc, &Diff::new(part, Seq::new(alloc), Seq::new(alloc))),
         Err(PageFault::Raised) => Text::copy_of(alloc, "raised"),
         Err(PageFault::OutOfMemory) => Err(OutOfMemory),
     }

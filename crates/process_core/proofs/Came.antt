@@ -10,8 +10,8 @@ use Rattle.diff_tree.specs.Client.{PageTree}
 use Rattle.diff_tree.specs.Frame.{rendered}
 use Rattle.diff_tree.specs.Spelling.{Pushed}
 use Rattle.wire_v2.specs.Message.{MessageHead}
-use Rattle.wire_v2.specs.FrameData.{pushed_of}
-use Rattle.wire_v2.specs.declared.push.Push.{Push}
+use Rattle.diff_tree.specs.Parts.{pushed_of}
+use Rattle.diff_tree.specs.declared.push.Push.{Push}
 use Rattle.machine_api.specs.declared.machine.Action as asked
 use Rattle.diff_render.specs.Renders.{present, whole_json}
 use Rattle.effects_apply.specs.declared.rest.Rest.{Rest as Beside}

@@ -17,8 +17,8 @@ use Rattle.diff_tree.specs.declared.part.Part.{Part}
 use Rattle.diff_tree.specs.declared.part.PlaceValue.{PlaceValue}
 use Rattle.diff_tree.specs.declared.part.PlaceValue.TheFolds.{fold_out-Part}
 use Rattle.wire_v2.specs.FrameGrammar.{is_empty_object}
-use Rattle.wire_v2.specs.FrameData.{pushed_of}
-use Rattle.wire_v2.specs.declared.push.Push.{Push}
+use Rattle.diff_tree.specs.Parts.{pushed_of}
+use Rattle.diff_tree.specs.declared.push.Push.{Push}
 use Rattle.doc_model.specs.Evaluation.{Res, both, on_res}
 use Rattle.doc_model.specs.Lean.{is_empty}
 use Rattle.doc_model.specs.Trace.{Items, item, met_text}

@@ -6,7 +6,7 @@ ghost use Rattle.diff_tree.specs.Client.{PageDiff};
 ghost use Rattle.diff_tree.specs.Spelling.{changes_json};
 ghost use Rattle.diff_tree.specs.Parts.{part_data};
 ghost use Rattle.wire_v2.specs.FrameGrammar.{is_empty_object};
-ghost use Rattle.wire_v2.specs.FrameData.{pushed_of};
+ghost use Rattle.diff_tree.specs.Parts.{pushed_of};
 ghost use Rattle.wire_v2.specs.FrameLaws.{BodyStandsFor};
 ghost use Rattle.wire_v2.specs.View.{head_view};
 ghost use Rattle.doc_model.specs.Process.{diff_body, reply_diff};

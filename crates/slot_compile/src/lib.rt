@@ -1,6 +1,7 @@
-//! Templates, flattened into constant texts and what changes between them.
+//! Templates, compiled into numbered bodies of constant texts and what changes between them.
 #![tactic(auto)]
 
+mod bodies;
 mod compiled;
 mod copying;
 mod flattening;
@@ -9,5 +10,5 @@ mod formula;
 mod tests;
 mod walk;
 
-pub use compiled::{Compiled, Dynamic, compile};
+pub use compiled::{Branch, Compiled, Dynamic, compile};
 pub use formula::Formula;

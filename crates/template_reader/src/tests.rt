@@ -12,21 +12,47 @@ fn mark(dynamic: &Dynamic) -> &'static str {
         Dynamic::Put(_) => "|",
         Dynamic::Attribute { name: _, value: _ } => "|=",
         Dynamic::Spread(_) => "|*",
+        Dynamic::If {
+            test: _,
+            yes: _,
+            no: _,
+        } => "|?",
+        Dynamic::Case {
+            value: _,
+            clauses: _,
+        } => "|:",
+        Dynamic::For {
+            list: _,
+            pattern: _,
+            reads: _,
+            body: _,
+        } => "|+",
     }
 }
 
-// The constant texts of a template, with a mark for each dynamic.
+// The constant texts of a body, with a mark for each dynamic.
+fn show_body(compiled: &Compiled, number: usize, line: &mut String) -> Result<(), OutOfMemory> {
+    let mut dynamics = compiled.dynamics(number).iter();
+    for text in compiled.statics(number) {
+        line.push_str(text.as_str())?;
+        if let Some(dynamic) = dynamics.next() {
+            line.push_str(mark(dynamic))?;
+        }
+    }
+    Ok(())
+}
+
+// The bodies of a template in order of their numbers.
 fn shown(alloc: Global, read: Option<Compiled>) -> Result<String, OutOfMemory> {
     let Some(compiled) = read else {
         return Ok(String::from_str(alloc, "none")?);
     };
     let mut line = String::new(alloc);
-    let mut dynamics = compiled.dynamics().iter();
-    for text in compiled.statics() {
-        line.push_str(text.as_str())?;
-        if let Some(dynamic) = dynamics.next() {
-            line.push_str(mark(dynamic))?;
+    for number in 0..compiled.count() {
+        if number > 0 {
+            line.push_str(" ~ ")?;
         }
+        show_body(&compiled, number, &mut line)?;
     }
     Ok(line)
 }
@@ -53,12 +79,62 @@ fn templates(rt: HostRuntime) -> Result<(), Fail> {
         ("{@a", "none"),
         ("<b>", "none"),
         ("<.card />", "none"),
-        ("<b :if={@a} />", "none"),
-        ("<%= if @a do %>b<% end %>", "none"),
         ("x<p>{@a}</p> ", "x<p>|</p> "),
     ] {
         let found = shown(alloc, read_template(alloc, text)?)?;
         assert_eq!(rt; found.as_str(), expected, "of {text}");
+    }
+    Ok(())
+}
+
+#[test]
+fn bodies(rt: HostRuntime) -> Result<(), Fail> {
+    let alloc = rt.alloc();
+    for (text, expected) in [
+        ("<%= if @a do %>b<% end %>", "|? ~ b"),
+        (
+            "<p><%= if @a do %>{@b}<% else %>c<% end %></p>",
+            "<p>|?</p> ~ | ~ c",
+        ),
+        (
+            "<%= case @a do %><% 1 -> %>x<% y -> %><b>{y}</b><% end %>",
+            "|: ~ x ~ <b>|</b>",
+        ),
+        ("<%= for x <- @l do %><i>{x}</i><% end %>", "|+ ~ <i>|</i>"),
+        ("<b :if={@a} />", "|? ~ <b></b>"),
+        ("<i :for={x <- @l} title={x}>z</i>", "|+ ~ <i|=>z</i>"),
+        (
+            "<i :for={x <- @l} :if={x} {@m}>z</i>",
+            "|+ ~ |? ~ <i|*>z</i>",
+        ),
+        (
+            "<%= for x <- @l do %><b :if={x}>{@a}</b>{x}<% end %>",
+            "|+ ~ |?| ~ <b>|</b>",
+        ),
+        ("<%= for streams <- @l do %>{streams}<% end %>", "|+ ~ |"),
+    ] {
+        let found = shown(alloc, read_template(alloc, text)?)?;
+        assert_eq!(rt; found.as_str(), expected, "of {text}");
+    }
+    Ok(())
+}
+
+#[test]
+fn not_yet(rt: HostRuntime) -> Result<(), Fail> {
+    let alloc = rt.alloc();
+    for text in [
+        "<%= if @a do %><.card /><% end %>",
+        "<%= if @a do %>b<% else %>{render_slot(@s)}<% end %>",
+        "<li :for={{i, x} <- @streams.m} id={i}>{x}</li>",
+        "<%= for x <- @streams.m do %>{x}<% end %>",
+        "<%= for x <- @l do %>{@streams}<% end %>",
+        "<%= for streams <- @l do %>{@streams}<% end %>",
+        "<%= case @a do %><% 1 -> %>x<% _ -> %><b c={@streams} /><% end %>",
+        "<%= if @streams do %>x<% end %>",
+        "<p>{@a}</p><b :if={@a}><i :for={x <- @l} {@streams} /></b>",
+    ] {
+        let found = shown(alloc, read_template(alloc, text)?)?;
+        assert_eq!(rt; found.as_str(), "none", "of {text}");
     }
     Ok(())
 }

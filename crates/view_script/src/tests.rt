@@ -13,7 +13,10 @@ const MANIFEST: &str =
 
 fn views(alloc: Global) -> Result<ScriptViews, Fail> {
     let mut files = ByKey::new(alloc);
-    for (name, content) in [("bundle.json", MANIFEST), ("t.html.heex", "{@n}")] {
+    for (name, content) in [
+        ("bundle.json", MANIFEST),
+        ("t.html.heex", "<p :if={@high}>{@n}</p>"),
+    ] {
         let content = Bytes::copy_of(alloc, content.as_bytes())?;
         files.insert(Text::copy_of(alloc, name)?, content)?;
     }

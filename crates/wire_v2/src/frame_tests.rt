@@ -1,7 +1,7 @@
 //! Texts against the frames that they spell.
 
-use crate::{Frame, FrameBody, MessageFault, Push, read_frame, write_frame};
-use diff_tree::read_diff;
+use crate::{Frame, FrameBody, MessageFault, push_of_value, read_frame, write_frame};
+use diff_tree::{Diff, read_diff};
 use std::alloc::Global;
 use std::test::Fail;
 use text_core::{Seq, Text};
@@ -55,6 +55,14 @@ fn frames_are_read_and_written(rt: HostRuntime) -> Result<(), Fail> {
             "[\"1\",null,\"lv:A\",\"diff\",{\"0\":\"z\"}]",
         ),
         (
+            "[\"1\",\"1\",\"lv:A\",\"phx_reply\",{\"response\":{\"rendered\":{\"0\":1,\"1\":{\"d\":[[\"a\"]],\"s\":[\"<p>\",\"</p>\"]},\"c\":{\"1\":{\"s\":[\"x\"]}},\"e\":[[\"sum\",{\"n\":2}]],\"s\":[\"\",\"\",\"\"]}},\"status\":\"ok\"}]",
+            "[\"1\",\"1\",\"lv:A\",\"phx_reply\",{\"response\":{\"rendered\":{\"0\":1,\"1\":{\"d\":[[\"a\"]],\"s\":[\"<p>\",\"</p>\"]},\"c\":{\"1\":{\"s\":[\"x\"]}},\"e\":[[\"sum\",{\"n\":2}]],\"s\":[\"\",\"\",\"\"]}},\"status\":\"ok\"}]",
+        ),
+        (
+            "[\"1\",null,\"lv:A\",\"diff\",{\"c\":{\"2\":{\"d\":[[\"a\"]]}},\"0\":{\"stream\":[\"rows\",[[\"r-1\",-1,null]],[]],\"d\":[[\"b\"]]}}]",
+            "[\"1\",null,\"lv:A\",\"diff\",{\"0\":{\"d\":[[\"b\"]],\"stream\":[\"rows\",[[\"r-1\",-1,null]],[]]},\"c\":{\"2\":{\"d\":[[\"a\"]]}}}]",
+        ),
+        (
             "[\"1\",\"1\",\"lv:A\",\"phx_close\",{}]",
             "[\"1\",\"1\",\"lv:A\",\"phx_close\",{}]",
         ),
@@ -94,6 +102,11 @@ fn other_texts_are_refused(rt: HostRuntime) -> Result<(), Fail> {
         "[\"1\",\"1\",\"lv:A\",\"phx_reply\",{\"response\":{\"rendered\":{\"0\":{\"0\":\"x\"},\"s\":[\"\",\"\"]}},\"status\":\"ok\"}]",
         "[\"1\",\"1\",\"lv:A\",\"diff\",{\"0\":\"z\"}]",
         "[\"1\",null,\"lv:A\",\"diff\",{\"00\":\"z\"}]",
+        "[\"1\",\"1\",\"lv:A\",\"phx_reply\",{\"response\":{\"rendered\":{\"0\":{\"d\":[[\"a\"]]},\"s\":[\"\",\"\"]}},\"status\":\"ok\"}]",
+        "[\"1\",\"1\",\"lv:A\",\"phx_reply\",{\"response\":{\"rendered\":{\"0\":{\"d\":[[{\"0\":\"a\"}]],\"s\":[\"\",\"\"]},\"s\":[\"\",\"\"]}},\"status\":\"ok\"}]",
+        "[\"1\",\"1\",\"lv:A\",\"phx_reply\",{\"response\":{\"rendered\":{\"c\":{\"1\":{\"0\":\"a\"}},\"s\":[\"\"]}},\"status\":\"ok\"}]",
+        "[\"1\",\"1\",\"lv:A\",\"phx_reply\",{\"response\":{\"rendered\":{\"c\":{\"1\":{\"0\":{\"0\":\"a\"},\"s\":[\"\",\"\"]}},\"s\":[\"\"]}},\"status\":\"ok\"}]",
+        "[\"1\",null,\"lv:A\",\"diff\",{\"0\":{\"d\":[]}}]",
         "[\"1\",null,\"lv:A\",\"diff\",{\"e\":[]}]",
         "[\"1\",null,\"lv:A\",\"diff\",{\"e\":[[\"sum\"]]}]",
         "[\"1\",null,\"lv:A\",\"diff\",{\"e\":[[\"sum\",1.5]]}]",
@@ -107,21 +120,19 @@ fn other_texts_are_refused(rt: HostRuntime) -> Result<(), Fail> {
 fn a_push_has_the_json_of_its_value(rt: HostRuntime) -> Result<(), Fail> {
     let alloc = rt.alloc();
     let mut events = Seq::new(alloc);
-    events.push(Push::of_value(alloc, Text::copy_of(alloc, "saved")?, &Value::Int(-3))?)?;
+    events.push(push_of_value(alloc, Text::copy_of(alloc, "saved")?, &Value::Int(-3))?)?;
+    let (root, components, _events) = read_diff(alloc, "{\"1\":\"x\"}")?.into_parts();
     let frame = Frame {
         join_ref: Some(Text::copy_of(alloc, "1")?),
         reference: None,
         topic: Text::copy_of(alloc, "lv:A")?,
-        body: FrameBody::Pushed {
-            diff: read_diff(alloc, "{\"1\":\"x\"}")?,
-            events,
-        },
+        body: FrameBody::Pushed(Diff::new(root, components, events)),
     };
     assert_eq!(rt;
         line_of(alloc, &frame)?.as_str(),
         "[\"1\",null,\"lv:A\",\"diff\",{\"1\":\"x\",\"e\":[[\"saved\",-3]]}]"
     );
-    let atom = Push::of_value(
+    let atom = push_of_value(
         alloc,
         Text::copy_of(alloc, "saved")?,
         &Value::Atom(Text::copy_of(alloc, "ok")?),

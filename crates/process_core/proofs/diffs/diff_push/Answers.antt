@@ -1,6 +1,6 @@
 use Rattle.std.proofs.Common.{[], ◌∷◌, map, None, if◌then◌else◌, sym, ◌∙◌, ap, refl}
 use Rattle.diff_tree.specs.Frame as model
-use Rattle.wire_v2.specs.FrameData.{pushed_of}
+use Rattle.diff_tree.specs.Parts.{pushed_of}
 use Rattle.doc_model.specs.Process.{frame_of}
 use Rattle.doc_model.specs.Journal.{spelled}
 use Rattle.process_core.proofs.Arms.{on_given}

@@ -1,6 +1,6 @@
 use Rattle.std.proofs.Common.{map, if◌then◌else◌, sym, ◌∙◌, ap}
 use Rattle.diff_tree.specs.Frame as model
-use Rattle.wire_v2.specs.FrameData.{pushed_of}
+use Rattle.diff_tree.specs.Parts.{pushed_of}
 use Rattle.process_core.proofs.Plain.{nothing_is, page_is}
 use Rattle.process_core.proofs.diffs.reply_body.Goals as goal
 

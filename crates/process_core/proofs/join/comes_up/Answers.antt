@@ -1,6 +1,6 @@
 use Rattle.std.proofs.Common.{map, refl, ap, ◌∙◌}
 use Rattle.diff_tree.specs.Frame.{rendered}
-use Rattle.wire_v2.specs.FrameData.{pushed_of}
+use Rattle.diff_tree.specs.Parts.{pushed_of}
 use Rattle.process_core.proofs.Came.{up_with}
 use Rattle.process_core.proofs.join.comes_up.Goals as goal
 
