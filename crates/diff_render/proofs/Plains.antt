@@ -36,10 +36,10 @@ same_reads : (env : Env) (ns : List Name) → reading env ns ≡ reading (lone e
 same_reads env ns = agree_reading env (lone env) ns (agree_same env (lone env) ns refl refl)
 
 -- a clause of a plain case is plain
-abbrev PlainClause : Chosen → Type 0
+abbrev pub PlainClause : Chosen → Type 0
 PlainClause c = all_plain c.nodes ≡ true
 
-chosen_plain : (v : Value) (cs : Clauses) → clauses_plain cs ≡ true → On PlainClause (chosen v cs)
+pub chosen_plain : (v : Value) (cs : Clauses) → clauses_plain cs ≡ true → On PlainClause (chosen v cs)
 chosen_plain v no_clauses h = tt
 chosen_plain v (clause p ns cs) h =
     let b = both_true (all_plain ns) (clauses_plain cs) h in
