@@ -1,6 +1,6 @@
 -- Templates that reach themselves. Templates are numbers, in byte order of their names; a graph has for each the numbers of those
 -- that it calls.
-use Rattle.std.specs.Prelude.{◌≡◌, ℕ, ◌<◌, ◌≤◌, List, [], ◌∷◌, length, get_or, Option, None, Some}
+use Rattle.std.specs.Prelude.{◌≡◌, ◌⊎◌, ℕ, ◌<◌, ◌≤◌, List, [], ◌∷◌, length, get_or, Option, None, Some}
 
 -- a number stands in a list
 abbrev pub Among : ℕ → List ℕ → Type 0

@@ -1,5 +1,5 @@
 -- What templates and modules are linked to.
-use Rattle.std.specs.Prelude.{◌≡◌, ℕ, ◌+◌, List, [], ◌∷◌, ◌++◌, map, length, get_or, Option, Some, None, Result, Ok, Err, ◌==◌, IsTrue, if◌then◌else◌}
+use Rattle.std.specs.Prelude.{◌≡◌, ◌⊎◌, ℕ, ◌+◌, List, [], ◌∷◌, ◌++◌, map, length, get_or, Option, Some, None, Result, Ok, Err, ◌==◌, IsTrue, if◌then◌else◌}
 use Rattle.ast_core.specs.declared.linked.Template.{Template}
 use Rattle.ast_core.specs.declared.linked.Module.{Module}
 use Rattle.ast_core.specs.declared.linked.Linked.{Linked}

@@ -7,7 +7,9 @@ ghost use Rattle.component_calls.specs.Tags.{modules_of};
 
 use crate::known::Known;
 use crate::tags::module_names;
-use ast_core::{Attributes, Clause, Clauses, Entries, Entry, Location, Node, Nodes, Place, SlotBody};
+use ast_core::{
+    Attributes, Clause, Clauses, Entries, Entry, Location, Node, Nodes, Place, SlotBody,
+};
 use std::alloc::Global;
 use text_core::{OutOfMemory, Seq};
 
@@ -72,7 +74,7 @@ impl Known {
     }
 
     /// Adds the calls in nodes.
-    #[cycle(node)]
+    #[cycle(call)]
     pub fn push_nodes(
         &self,
         alloc: Global,
@@ -87,7 +89,7 @@ impl Known {
         Ok(())
     }
 
-    #[cycle(node)]
+    #[cycle(call)]
     fn push_node(&self, alloc: Global, node: &Node, calls: &mut Calls) -> Result<(), OutOfMemory>
         ensures { OnOk result (map call_view calls.new ≡ map call_view calls.old ++ calls_of self.now (node_view node.now)) }
     {
@@ -103,7 +105,7 @@ impl Known {
         }
     }
 
-    #[cycle(node)]
+    #[cycle(call)]
     fn push_place(
         &self,
         alloc: Global,
@@ -153,7 +155,7 @@ impl Known {
         }
     }
 
-    #[cycle(node)]
+    #[cycle(call)]
     fn push_clauses(
         &self,
         alloc: Global,
@@ -168,7 +170,7 @@ impl Known {
         Ok(())
     }
 
-    #[cycle(node)]
+    #[cycle(call)]
     fn push_clause(
         &self,
         alloc: Global,
@@ -180,14 +182,19 @@ impl Known {
         self.push_nodes(alloc, &clause.body, calls)
     }
 
-    #[cycle(node)]
-    fn push_body(&self, alloc: Global, body: &SlotBody, calls: &mut Calls) -> Result<(), OutOfMemory>
+    #[cycle(call)]
+    fn push_body(
+        &self,
+        alloc: Global,
+        body: &SlotBody,
+        calls: &mut Calls,
+    ) -> Result<(), OutOfMemory>
         ensures { OnOk result (map call_view calls.new ≡ map call_view calls.old ++ body_calls self.now (body_view body.now)) }
     {
         self.push_nodes(alloc, &body.nodes, calls)
     }
 
-    #[cycle(node)]
+    #[cycle(call)]
     fn push_entries(
         &self,
         alloc: Global,
@@ -202,7 +209,7 @@ impl Known {
         Ok(())
     }
 
-    #[cycle(node)]
+    #[cycle(call)]
     fn push_entry(&self, alloc: Global, entry: &Entry, calls: &mut Calls) -> Result<(), OutOfMemory>
         ensures { OnOk result (map call_view calls.new ≡ map call_view calls.old ++ body_calls self.now (entry_view entry.now).body) }
     {

@@ -33,10 +33,7 @@ pub enum LinkFault {
 #[derive(Debug, Drop)]
 pub(crate) enum NodeFault {
     /// The first fault.
-    Refused {
-        at: Location,
-        kind: LinkKind,
-    },
+    Refused { at: Location, kind: LinkKind },
     /// Memory was wanting.
     OutOfMemory,
 }

@@ -65,12 +65,7 @@ fn next_layer(
 }
 
 // The templates that reach the target in at most so many calls.
-fn layer_at(
-    alloc: Global,
-    graph: &Graph,
-    target: usize,
-    steps: usize,
-) -> Result<Layer, OutOfMemory>
+fn layer_at(alloc: Global, graph: &Graph, target: usize, steps: usize) -> Result<Layer, OutOfMemory>
     ensures { IfOk result (λ r. r ≡ layer_at graph.now target steps) }
 {
     let mut layer = none_of(alloc, graph)?;
@@ -87,11 +82,7 @@ fn is_same(left: &Layer, right: &Layer) -> bool
 }
 
 // How many calls the shortest way from a template to itself has.
-fn shortest(
-    alloc: Global,
-    graph: &Graph,
-    target: usize,
-) -> Result<Option<usize>, OutOfMemory>
+fn shortest(alloc: Global, graph: &Graph, target: usize) -> Result<Option<usize>, OutOfMemory>
     ensures { IfOk result (λ o. MatchOption o
         (ReachesNotItself graph.now target)
         (λ n. (get_or (layer_at graph.now target n) target false ≡ true) × ((w : List ℕ) → IsRound graph.now target w → n ≤ length w))) }
@@ -120,12 +111,7 @@ fn least_lead(target: usize, layer: &Layer, callees: &Seq<usize>) -> Option<usiz
     least
 }
 
-fn least_with(
-    target: usize,
-    layer: &Layer,
-    least: Option<usize>,
-    other: usize,
-) -> Option<usize>
+fn least_with(target: usize, layer: &Layer, least: Option<usize>, other: usize) -> Option<usize>
     ensures { result ≡ least_with target layer.now least other }
 {
     if leads_by(target, layer, other) {
@@ -139,13 +125,7 @@ fn lesser(least: Option<usize>, other: usize) -> usize
     ensures { result ≡ lesser least other }
 {
     match least {
-        Some(least) => {
-            if least < other {
-                least
-            } else {
-                other
-            }
-        }
+        Some(least) => { if least < other { least } else { other } }
         None => other,
     }
 }

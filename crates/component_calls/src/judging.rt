@@ -71,7 +71,7 @@ impl Known {
     }
 
     /// Refuses the first fault in nodes.
-    #[cycle(node)]
+    #[cycle(check)]
     pub fn check_nodes(&self, alloc: Global, nodes: &Nodes) -> Result<(), NodeFault>
         ensures { Judged result (faults_in self.now (nodes_view nodes.now)) }
     {
@@ -81,7 +81,7 @@ impl Known {
         Ok(())
     }
 
-    #[cycle(node)]
+    #[cycle(check)]
     fn check_node(&self, alloc: Global, node: &Node) -> Result<(), NodeFault>
         ensures { Judged result (faults_of self.now (node_view node.now)) }
     {
@@ -100,7 +100,7 @@ impl Known {
         }
     }
 
-    #[cycle(node)]
+    #[cycle(check)]
     fn check_place(&self, alloc: Global, place: &Place, at: Location) -> Result<(), NodeFault>
         ensures { Judged result (faults_at self.now (location_of at) (place_view place.now)) }
     {
@@ -145,7 +145,7 @@ impl Known {
         }
     }
 
-    #[cycle(node)]
+    #[cycle(check)]
     fn check_clauses(&self, alloc: Global, clauses: &Clauses) -> Result<(), NodeFault>
         ensures { Judged result (clause_faults self.now (clauses_view clauses.now)) }
     {
@@ -155,21 +155,21 @@ impl Known {
         Ok(())
     }
 
-    #[cycle(node)]
+    #[cycle(check)]
     fn check_clause(&self, alloc: Global, clause: &Clause) -> Result<(), NodeFault>
         ensures { Judged result (faults_in self.now (clause_view clause.now).1) }
     {
         self.check_nodes(alloc, &clause.body)
     }
 
-    #[cycle(node)]
+    #[cycle(check)]
     fn check_body(&self, alloc: Global, body: &SlotBody) -> Result<(), NodeFault>
         ensures { Judged result (body_faults self.now (body_view body.now)) }
     {
         self.check_nodes(alloc, &body.nodes)
     }
 
-    #[cycle(node)]
+    #[cycle(check)]
     fn check_entries(&self, alloc: Global, entries: &Entries) -> Result<(), NodeFault>
         ensures { Judged result (entry_faults self.now (entries_view entries.now)) }
     {
@@ -179,7 +179,7 @@ impl Known {
         Ok(())
     }
 
-    #[cycle(node)]
+    #[cycle(check)]
     fn check_entry(&self, alloc: Global, entry: &Entry) -> Result<(), NodeFault>
         ensures { Judged result (faults_in_entry self.now (entry_view entry.now)) }
     {

@@ -21,7 +21,7 @@ use text_core::{Names, OutOfMemory, Seq, Text};
 #[derive(Debug, Drop)]
 pub struct LinkedBundle {
     pub linked: Linked,
-    pub ghost lawful: { IsLinkedBundle linked },
+    pub ghost lawful: { ∥ IsLinkedBundle linked ∥₁ },
 }
 
 fn known_in(
@@ -89,11 +89,7 @@ fn calls_of(alloc: Global, known: &Known, template: &Template) -> Result<Calls, 
     Ok(calls)
 }
 
-fn callees_of(
-    alloc: Global,
-    known: &Known,
-    template: &Template,
-) -> Result<Seq<usize>, OutOfMemory>
+fn callees_of(alloc: Global, known: &Known, template: &Template) -> Result<Seq<usize>, OutOfMemory>
     ensures { IfOk result (λ cs. cs ≡ callees known.now template.now) }
 {
     let calls = calls_of(alloc, known, template)?;

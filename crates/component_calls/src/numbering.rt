@@ -201,11 +201,7 @@ fn number_place(alloc: Global, place: &Place, next: &mut u64) -> Result<Place, O
 }
 
 #[cycle(node)]
-fn number_clauses(
-    alloc: Global,
-    clauses: &Clauses,
-    next: &mut u64,
-) -> Result<Clauses, OutOfMemory>
+fn number_clauses(alloc: Global, clauses: &Clauses, next: &mut u64) -> Result<Clauses, OutOfMemory>
     ensures clauses { IfOk result (λ cs. clauses_view cs ≡ number_clauses next.old (clauses_view clauses.now)) }
     ensures next { OnOk result (next.new ≡ next.old + length (clause_bodies (clauses_view clauses.now))) }
 {
@@ -271,11 +267,7 @@ pub(crate) fn number_body(
 }
 
 #[cycle(node)]
-fn number_entries(
-    alloc: Global,
-    entries: &Entries,
-    next: &mut u64,
-) -> Result<Entries, OutOfMemory>
+fn number_entries(alloc: Global, entries: &Entries, next: &mut u64) -> Result<Entries, OutOfMemory>
     ensures entries { IfOk result (λ es. entries_view es ≡ number_entries next.old (entries_view entries.now)) }
     ensures next { OnOk result (next.new ≡ next.old + length (entry_bodies (entries_view entries.now))) }
 {

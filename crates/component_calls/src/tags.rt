@@ -26,10 +26,7 @@ fn push_name(alloc: Global, attribute: &Attribute, names: &mut Names) -> Result<
 }
 
 /// The names of attributes; a spread has none.
-pub(crate) fn attribute_names(
-    alloc: Global,
-    attributes: &Attributes,
-) -> Result<Names, OutOfMemory>
+pub(crate) fn attribute_names(alloc: Global, attributes: &Attributes) -> Result<Names, OutOfMemory>
     ensures { IfOk result (λ ns. ns ≡ names_of (attributes_view attributes.now)) }
 {
     let mut names = Names::new(alloc);
@@ -91,12 +88,7 @@ fn check_repeats(alloc: Global, at: Location, names: &Names) -> Result<(), NodeF
 }
 
 // Refuses the first name that stands among others.
-fn check_among(
-    alloc: Global,
-    at: Location,
-    names: &Names,
-    others: &Names,
-) -> Result<(), NodeFault>
+fn check_among(alloc: Global, at: Location, names: &Names, others: &Names) -> Result<(), NodeFault>
     ensures { Judged result (duplicates (location_of at) (among others.now names.now)) }
 {
     'names: for name in names.as_slice() {
