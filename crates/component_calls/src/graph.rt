@@ -69,8 +69,10 @@ fn layer_at(alloc: Global, graph: &Graph, target: usize, steps: usize) -> Result
     ensures { IfOk result (λ r. r ≡ layer_at graph.now target steps) }
 {
     let mut layer = none_of(alloc, graph)?;
-    'steps: for _step in 0..steps {
+    let mut done = 0;
+    'steps: while done < steps {
         layer = next_layer(alloc, graph, target, &layer)?;
+        done += 1;
     }
     Ok(layer)
 }
