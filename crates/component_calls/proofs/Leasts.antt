@@ -34,7 +34,7 @@ under_second (Some a) d = omega arith
 
 lesser_is : (o : Option ℕ) (d : ℕ) → (o ≡ Some (lesser o d)) ⊎ (lesser o d ≡ d)
 lesser_is None d = inr refl
-lesser_is (Some a) d = by (omega arith)
+lesser_is (Some a) d = by (grind arith)
   where
     by : (min a d ≡ a) ⊎ (min a d ≡ d) → (Some a ≡ Some (min a d)) ⊎ (min a d ≡ d)
     by (inl e) = inl (ap Some (sym e))
@@ -42,28 +42,28 @@ lesser_is (Some a) d = by (omega arith)
 
 -- one more number that does not lead
 passed : (t : ℕ) (r : List Bool) (o : Option ℕ) (d : ℕ) (ds : List ℕ) (z : Option ℕ) → leads_by t r d ≡ false → Best t r o ds z → Best t r o (d ∷ ds) z
-passed t r o d ds None no best = (best.0, ap (λ (b : Bool). b || leads t r ds) no ∙ best.1)
-passed t r o d ds (Some c) no best = (comes best.0, (best.1.0, under))
+passed t r o d ds None other best = (best.0, ap (λ (b : Bool). b || leads t r ds) other ∙ best.1)
+passed t r o d ds (Some c) other best = (comes best.0, (best.1.0, under))
   where
     comes : Comes t r o ds c → Comes t r o (d ∷ ds) c
     comes (inl e) = inl e
     comes (inr m) = inr (inr m.0, m.1)
 
     under : (x : ℕ) → Among x (d ∷ ds) → leads_by t r x ≡ true → c ≤ x
-    under x (inl e) h = absurd (true≢false (sym h ∙ ap (leads_by t r) e ∙ no))
+    under x (inl e) h = absurd (true≢false (sym h ∙ ap (leads_by t r) e ∙ other))
     under x (inr m) h = best.1.1 x m h
 
 -- one more number that does
 taken : (t : ℕ) (r : List Bool) (o : Option ℕ) (d : ℕ) (ds : List ℕ) (z : Option ℕ) → leads_by t r d ≡ true → Best t r (Some (lesser o d)) ds z → Best t r o (d ∷ ds) z
-taken t r o d ds None yes best = absurd (not_some (lesser o d) (sym best.0))
-taken t r o d ds (Some c) yes best = (comes best.0, (first, under))
+taken t r o d ds None lead best = absurd (not_some (lesser o d) (sym best.0))
+taken t r o d ds (Some c) lead best = (comes best.0, (first, under))
   where
     small : c ≤ lesser o d
     small = best.1.0 (lesser o d) refl
 
     from : lesser o d ≡ c → (o ≡ Some (lesser o d)) ⊎ (lesser o d ≡ d) → Comes t r o (d ∷ ds) c
     from e (inl is) = inl (is ∙ ap Some e)
-    from e (inr is) = inr (inl (sym e ∙ is), subst (λ (x : ℕ). leads_by t r x ≡ true) (sym is ∙ e) yes)
+    from e (inr is) = inr (inl (sym e ∙ is), subst (λ (x : ℕ). leads_by t r x ≡ true) (sym is ∙ e) lead)
 
     comes : Comes t r (Some (lesser o d)) ds c → Comes t r o (d ∷ ds) c
     comes (inl e) = from (same_some (lesser o d) c e) (lesser_is o d)

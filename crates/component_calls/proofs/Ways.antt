@@ -1,5 +1,5 @@
 -- What layers tell of ways, and the least way step by step.
-use Rattle.std.proofs.Common.{◌≡◌, ◌≢◌, ◌⊎◌, inl, inr, ℕ, zero, suc, ◌+◌, ◌<◌, ◌≤◌, List, [], ◌∷◌, length, map, get_or, Bool, true, false, ◌||◌, ◌==◌, true≢false, refl, sym, ap, ◌∙◌, subst, arith, suc-le-suc, le_of_suc-le-suc, eq-or-lt_of_le, le_trans, zero-add, suc-add}
+use Rattle.std.proofs.Common.{◌≡◌, ◌≢◌, ◌⊎◌, inl, inr, ℕ, zero, suc, ◌+◌, ◌<◌, ◌≤◌, List, [], ◌∷◌, length, map, get_or, Bool, true, false, ◌||◌, ◌==◌, true≢false, refl, sym, ap, ◌∙◌, subst, arith, suc-le-suc, le_of_suc-le-suc, eq-or-lt_of_le, le_trans, zero-add, suc-add, add-one}
 use Rattle.std.proofs.lemmas.Bool.{eqb-true, eq-eqb}
 use Rattle.std.proofs.Math.ListN.{get_or-map}
 use Rattle.component_calls.specs.Cycles.{Among, AtMost, HasSteps, IsLeastRound, IsRound, IsWay, ReachesNotItself}
@@ -88,7 +88,7 @@ some_leads g t k a h = sym (layer_next g t k a) ∙ h
 
 -- what a layer does not tell is longer
 pub longer : (g : List (List ℕ)) (t n : ℕ) → get_or (layer_at g t n) t false ≡ false → (v : List ℕ) → IsRound g t v → n + 1 ≤ length v
-longer g t n no v round = let bigger : length v ≤ n → ⊥ = λ small. true≢false (sym (complete g t n t v round.0 round.1 small) ∙ no) in omega (arith, bigger)
+longer g t n absent v round = let bigger : length v ≤ n → ⊥ = λ small. true≢false (sym (complete g t n t v round.0 round.1 small) ∙ absent) in omega (arith, bigger)
 
 -- layers that do not grow stay
 stays : (g : List (List ℕ)) (t n m : ℕ) → next_layer g t (layer_at g t n) ≡ layer_at g t n → layer_at g t (m + n) ≡ layer_at g t n
@@ -96,8 +96,8 @@ stays g t n zero same = ap (layer_at g t) (zero-add n)
 stays g t n (suc m) same = ap (layer_at g t) (suc-add m n) ∙ ap (next_layer g t) (stays g t n m same) ∙ same
 
 pub never : (g : List (List ℕ)) (t n : ℕ) → next_layer g t (layer_at g t n) ≡ layer_at g t n → get_or (layer_at g t n) t false ≡ false → ReachesNotItself g t
-never g t n same no v round =
-    true≢false (sym (complete g t (length v + n) t v round.0 round.1 (omega arith)) ∙ ap (λ (r : List Bool). get_or r t false) (stays g t n (length v) same) ∙ no)
+never g t n same absent v round =
+    true≢false (sym (complete g t (length v + n) t v round.0 round.1 (omega arith)) ∙ ap (λ (r : List Bool). get_or r t false) (stays g t n (length v) same) ∙ absent)
 
 -- the least of the shortest ways is the least round
 pub round_is : (g : List (List ℕ)) (t n : ℕ) (w : List ℕ) → IsLeastWay g t n t w → ((v : List ℕ) → IsRound g t v → n ≤ length v) → ((b : ℕ) → b < t → ReachesNotItself g b)
@@ -113,3 +113,7 @@ round_is g t n w way shortest first = record {
 pub calls_nothing : (g : List (List ℕ)) (b : ℕ) → get_or g b [] ≡ [] → ReachesNotItself g b
 calls_nothing g b none [] round = absurd round.0
 calls_nothing g b none (c ∷ w) round = subst (λ (cs : List ℕ). Among c cs) none round.1.0
+
+-- the layer of one call more
+pub layer_more : (g : List (List ℕ)) (t n : ℕ) → layer_at g t (n + 1) ≡ next_layer g t (layer_at g t n)
+layer_more g t n = ap (layer_at g t) (add-one n)
