@@ -1,32 +1,11 @@
 -- Lists that are gone over item by item.
-use Rattle.std.proofs.Common.{◌≡◌, ℕ, ◌+◌, ◌<◌, ◌≤◌, List, [], ◌∷◌, ◌++◌, length, get_or, drop, map, Option, Some, None, refl, sym, ap, ◌∙◌, append_assoc, append-nil, length-append, arith}
-use Rattle.std.proofs.lemmas.List.{drop_all, map-append}
+use Rattle.std.proofs.Common.{◌≡◌, ℕ, ◌+◌, ◌<◌, ◌≤◌, List, [], ◌∷◌, ◌++◌, length, get_or, drop, map, refl, sym, ap, ◌∙◌, append_assoc, append-nil, length-append, arith}
+use Rattle.std.proofs.lemmas.List.{drop_all}
 use Rattle.text_core.proofs.Keyed.{cons_at}
-use Rattle.component_calls.specs.Faults.{first}
 
 at_item : {X Y : Type 0} (one : X → List Y) (all : List X → List Y) → ((x : X) (xs : List X) → all (x ∷ xs) ≡ one x ++ all xs) → (s : List X) (i : ℕ) (x : X) → i < length s → x ≡ get_or s i x
     → all (drop i s) ≡ one x ++ all (drop (i + 1) s)
 at_item one all by_cons s i x within is = ap all (cons_at s i x within is) ∙ by_cons x (drop (i + 1) s)
-
--- nothing was found at one more item
-pub next_clear : {X Y : Type 0} (one : X → List Y) (all : List X → List Y) → ((x : X) (xs : List X) → all (x ∷ xs) ≡ one x ++ all xs) → (s : List X) (i : ℕ) (x : X) → i < length s → x ≡ get_or s i x
-    → one x ≡ [] → all s ≡ all (drop i s) → all s ≡ all (drop (i + 1) s)
-next_clear one all by_cons s i x within is clear inv =
-    inv ∙ at_item one all by_cons s i x within is ∙ ap (λ ys. ys ++ all (drop (i + 1) s)) clear
-
-pub first_on : {Y : Type 0} (xs ys : List Y) (y : Y) → first xs ≡ Some y → first (xs ++ ys) ≡ Some y
-first_on [] ys y h = cc
-first_on (x ∷ xs) ys y h = h
-
--- the first was found there
-pub next_first : {X Y : Type 0} (one : X → List Y) (all : List X → List Y) → ((x : X) (xs : List X) → all (x ∷ xs) ≡ one x ++ all xs) → (s : List X) (i : ℕ) (x : X) (y : Y) → i < length s → x ≡ get_or s i x
-    → first (one x) ≡ Some y → all s ≡ all (drop i s) → first (all s) ≡ Some y
-next_first one all by_cons s i x y within is found inv =
-    ap first (inv ∙ at_item one all by_cons s i x within is) ∙ first_on (one x) (all (drop (i + 1) s)) y found
-
--- nothing was found up to the end
-pub end_clear : {X Y : Type 0} (all : List X → List Y) → all [] ≡ [] → (s : List X) (i : ℕ) → length s ≤ i → all s ≡ all (drop i s) → all s ≡ []
-end_clear all none s i h inv = inv ∙ ap all (drop_all i s h) ∙ none
 
 -- lists that are added to
 pub both_added : {Y : Type 0} (a b c xs ys : List Y) → b ≡ a ++ xs → c ≡ b ++ ys → c ≡ a ++ (xs ++ ys)

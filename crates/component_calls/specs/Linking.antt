@@ -1,5 +1,5 @@
 -- What templates and modules are linked to.
-use Rattle.std.specs.Prelude.{◌≡◌, ◌⊎◌, ℕ, ◌+◌, List, [], ◌∷◌, ◌++◌, map, length, get_or, Option, Some, None, Result, Ok, Err, ◌==◌, IsTrue, if◌then◌else◌}
+use Rattle.std.specs.Prelude.{◌≡◌, ◌⊎◌, ℕ, ◌+◌, List, [], ◌∷◌, ◌++◌, map, length, get_or, Option, Some, None, option_map, Result, Ok, Err, ◌==◌, IsTrue, if◌then◌else◌}
 use Rattle.ast_core.specs.declared.linked.Template.{Template}
 use Rattle.ast_core.specs.declared.linked.Module.{Module}
 use Rattle.ast_core.specs.declared.linked.Linked.{Linked}
@@ -15,9 +15,8 @@ use Rattle.component_calls.specs.declared.fault.LinkKind.TheVariants.{Cycle, Dup
 use Rattle.component_calls.specs.declared.known.Known.{Known}
 use Rattle.component_calls.specs.Calls.{Seen, calls_in, graph_of}
 use Rattle.component_calls.specs.Cycles.{IsAcyclic, IsLeastCycle}
-use Rattle.component_calls.specs.Faults.{Found, faults_in, first}
+use Rattle.component_calls.specs.Faults.{Found, fault_in, or_next}
 use Rattle.component_calls.specs.Numbers.{bodies_in, number_nodes, numbered_in}
-use Rattle.component_calls.specs.Tags.{repeats, module_name}
 
 -- a fault in a template
 pub record Refusal : Type 0 where
@@ -31,25 +30,25 @@ refusal t f = record { template = t; at = f.at; kind = f.kind }
 abbrev pub file_start : Location
 file_start = record { line = 1; column = 1 }
 
--- modules that are declared twice, at the beginning of the later one's template
+-- the first module that is declared twice, at the beginning of the later one's template
 abbrev pub twice : List ℕ → List ℕ → Refusal
 twice m t = record { template = t; at = file_start; kind = DuplicateName m }
 
-abbrev pub module_faults : List (List ℕ) → List Module → List Refusal
-module_faults seen [] = []
-module_faults seen (m ∷ ms) = (if one_of m.module seen then twice m.module m.template ∷ [] else []) ++ module_faults (seen ++ m.module ∷ []) ms
+abbrev pub module_fault : List (List ℕ) → List Module → Option Refusal
+module_fault seen [] = None
+module_fault seen (m ∷ ms) = if one_of m.module seen then Some (twice m.module m.template) else module_fault (seen ++ m.module ∷ []) ms
 
--- what is refused in a template, and in each of templates
-abbrev pub refusals_in : Known → Template → List Refusal
-refusals_in k t = map (refusal t.name) (faults_in k (nodes_view t.nodes))
+-- the first fault in a template, and in templates
+abbrev pub refusal_in : Known → Template → Option Refusal
+refusal_in k t = option_map (refusal t.name) (fault_in k (nodes_view t.nodes))
 
-abbrev pub template_faults : Known → List Template → List Refusal
-template_faults k [] = []
-template_faults k (t ∷ ts) = refusals_in k t ++ template_faults k ts
+abbrev pub template_fault : Known → List Template → Option Refusal
+template_fault k [] = None
+template_fault k (t ∷ ts) = or_next (refusal_in k t) (template_fault k ts)
 
--- all that is refused but cycles, in order: modules, then templates
-abbrev pub faults : Known → List Template → List Refusal
-faults k ts = module_faults [] k.components ++ template_faults k ts
+-- the first thing that is refused but cycles: modules before templates
+abbrev pub first_fault : Known → List Template → Option Refusal
+first_fault k ts = or_next (module_fault [] k.components) (template_fault k ts)
 
 -- the names of templates, and what calls may lead to
 abbrev pub template_name : Template → List ℕ
@@ -115,11 +114,11 @@ linked_view l = record { templates = map template_view l.templates; bodies = map
 abbrev pub refused_at : List ℕ → Location → LinkKind → Refusal
 refused_at t l kind = record { template = t; at = l; kind = kind }
 
--- an answer over refusals: none, or the first of them
-abbrev pub JudgedIn : {T : Type 0} → Result T LinkFault → List Refusal → Type 0
-JudgedIn (Ok t) rs = rs ≡ []
-JudgedIn (Err (fault.Refused t at kind)) rs = first rs ≡ Some (refused_at t (location_of at) kind)
-JudgedIn (Err fault.OutOfMemory) rs = Unit {0}
+-- an answer over the first fault: there is none, or this is it
+abbrev pub JudgedIn : {T : Type 0} → Result T LinkFault → Option Refusal → Type 0
+JudgedIn (Ok t) o = o ≡ None
+JudgedIn (Err (fault.Refused t at kind)) o = o ≡ Some (refused_at t (location_of at) kind)
+JudgedIn (Err fault.OutOfMemory) o = Unit {0}
 
 -- an answer that is this refusal
 abbrev pub Refuses : {T : Type 0} → Result T LinkFault → Refusal → Type 0
@@ -135,11 +134,11 @@ JudgedCycles (Err fault.OutOfMemory) k ts = Unit {0}
 
 -- templates and modules in which nothing is refused
 abbrev pub IsLawful : Known → List Template → Type 0
-IsLawful k ts = (faults k ts ≡ []) × IsAcyclic (graph_of k ts)
+IsLawful k ts = (first_fault k ts ≡ None) × IsAcyclic (graph_of k ts)
 
 -- why templates and modules are refused: the first fault, or the cycle where there is no fault
 abbrev pub RefusesLink : Known → List Template → Refusal → Type 0
-RefusesLink k ts r = (first (faults k ts) ≡ Some r) ⊎ ((faults k ts ≡ []) × RefusesCycle k ts r)
+RefusesLink k ts r = (first_fault k ts ≡ Some r) ⊎ ((first_fault k ts ≡ None) × RefusesCycle k ts r)
 
 abbrev pub RefusedRightly : Known → List Template → LinkFault → Type 0
 RefusedRightly k ts (fault.Refused t at kind) = RefusesLink k ts (refused_at t (location_of at) kind)

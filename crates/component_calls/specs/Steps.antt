@@ -1,12 +1,12 @@
 -- The definitions in the steps of the code.
-use Rattle.std.specs.Prelude.{ℕ, List, [], ◌∷◌, ◌++◌, codes}
+use Rattle.std.specs.Prelude.{ℕ, List, [], ◌∷◌, Option, codes}
 use Rattle.std.specs.Str.{bytes_eq}
 use Rattle.ast_core.specs.declared.node.Attribute.{Attribute}
 use Rattle.ast_core.specs.NodeView.{SeenEntry, attribute_on}
 use Rattle.ast_core.specs.Syntax.{Attributes, Body, slot_body}
 use Rattle.component_calls.specs.Numbers.{number_body}
 use Rattle.component_calls.specs.declared.known.Known.{Known}
-use Rattle.component_calls.specs.Faults.{Found, body_faults, misused}
+use Rattle.component_calls.specs.Faults.{Found, body_fault, misused, or_next}
 use Rattle.ast_core.specs.declared.node.AttributeValue.{AttributeValue}
 use Rattle.ast_core.specs.declared.node.AttributeValue.TheVariants as form
 
@@ -29,8 +29,8 @@ module_of_value (form.Spread e) = []
 module_of_value (form.Module m) = m ∷ []
 
 -- what is refused in one entry
-abbrev pub faults_in_entry : Known → SeenEntry → List Found
-faults_in_entry k e = misused e.location (bytes_eq e.slot (codes "inner_block")) ++ body_faults k e.body
+abbrev pub fault_in_entry : Known → SeenEntry → Option Found
+fault_in_entry k e = or_next (misused e.location (bytes_eq e.slot (codes "inner_block"))) (body_fault k e.body)
 
 -- an attribute and its value before others
 abbrev pub seen_value : AttributeValue → List ℕ → Attributes → Attributes

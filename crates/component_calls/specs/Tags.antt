@@ -1,5 +1,5 @@
 -- What a tag says by its name, its attributes and its content.
-use Rattle.std.specs.Prelude.{ℕ, List, [], ◌∷◌, ◌++◌, map, Bool, true, false, codes, ◌==◌, ◌||◌, ◌&&◌, if◌then◌else◌}
+use Rattle.std.specs.Prelude.{ℕ, List, [], ◌∷◌, ◌++◌, Bool, true, false, codes, ◌==◌, ◌||◌, ◌&&◌, if◌then◌else◌, Option, Some, None}
 use Rattle.std.specs.Str.{bytes_eq}
 use Rattle.ast_core.specs.declared.linked.Module.{Module}
 use Rattle.ast_core.specs.Free.{one_of}
@@ -22,25 +22,24 @@ modules_of (valued n e xs) = modules_of xs
 modules_of (spread_of e xs) = modules_of xs
 modules_of (module_of m xs) = m ∷ modules_of xs
 
--- each name that repeats one before it; these are the names before the list
-abbrev pub repeats : List (List ℕ) → List (List ℕ) → List (List ℕ)
-repeats seen [] = []
-repeats seen (n ∷ ns) = (if one_of n seen then n ∷ [] else []) ++ repeats (seen ++ n ∷ []) ns
+-- the first name that repeats one before it; those are the names before the list
+abbrev pub first_repeat : List (List ℕ) → List (List ℕ) → Option (List ℕ)
+first_repeat seen [] = None
+first_repeat seen (n ∷ ns) = if one_of n seen then Some n else first_repeat (seen ++ n ∷ []) ns
 
 -- the slots of entries
 abbrev pub slots_of : Entries → List (List ℕ)
 slots_of no_entries = []
 slots_of (entry l s xs g t b es) = s ∷ slots_of es
 
--- those names that stand among others
-abbrev pub among : List (List ℕ) → List (List ℕ) → List (List ℕ)
-among others [] = []
-among others (n ∷ ns) = (if one_of n others then n ∷ [] else []) ++ among others ns
+-- the first name that stands among others, and the first that does not
+abbrev pub first_among : List (List ℕ) → List (List ℕ) → Option (List ℕ)
+first_among others [] = None
+first_among others (n ∷ ns) = if one_of n others then Some n else first_among others ns
 
--- those names that do not stand among others
-abbrev pub unknown_among : List (List ℕ) → List (List ℕ) → List (List ℕ)
-unknown_among others [] = []
-unknown_among others (n ∷ ns) = (if one_of n others then [] else n ∷ []) ++ unknown_among others ns
+abbrev pub first_unknown : List (List ℕ) → List (List ℕ) → Option (List ℕ)
+first_unknown others [] = None
+first_unknown others (n ∷ ns) = if one_of n others then first_unknown others ns else Some n
 
 -- a name that begins with a colon is that of a slot
 abbrev pub is_slot : List ℕ → Bool

@@ -1,9 +1,10 @@
 //! The way over nodes that finds the first fault.
-ghost use Rattle.std.specs.Prelude.{◌≡◌, [], ◌∷◌, IfOk};
+ghost use Rattle.std.specs.Prelude.{◌≡◌, [], ◌∷◌, ◌&&◌, IfOk, codes};
+ghost use Rattle.std.specs.Str.{bytes_eq};
 ghost use Rattle.ast_core.specs.NodeView.{attributes_view, body_view, clause_view, clauses_view, entries_view, entry_view, location_of, node_view, nodes_view, place_view};
-ghost use Rattle.component_calls.specs.Faults.{Judged, body_faults, clause_faults, declared_in, entry_faults, faults_at, faults_in, faults_of, is_bare, is_told, live_faults, unknowns};
-ghost use Rattle.component_calls.specs.Steps.{faults_in_entry};
-ghost use Rattle.component_calls.specs.Tags.{unknown_among};
+ghost use Rattle.component_calls.specs.Faults.{Judged, body_fault, clause_fault, declared_in, entry_fault, fault_at, fault_in, fault_of, is_bare, is_told, live_fault, unknown};
+ghost use Rattle.component_calls.specs.Steps.{fault_in_entry};
+ghost use Rattle.component_calls.specs.Tags.{first_unknown};
 
 use crate::fault::{LinkKind, NodeFault};
 use crate::known::{Known, is_one_of};
@@ -30,9 +31,29 @@ fn is_bare(content: &SlotBody, entries: &Entries) -> bool
     is_blank(&content.nodes) && entries.is_empty()
 }
 
+// Whether a live call is as it has to be.
+fn is_right(
+    alloc: Global,
+    attributes: &Attributes,
+    content: &SlotBody,
+    entries: &Entries,
+) -> Result<bool, OutOfMemory>
+    ensures { IfOk result (λ b. b ≡ (is_told (attributes_view attributes.now) && is_bare (body_view content.now) (entries_view entries.now))) }
+{
+    let told = is_told(alloc, attributes)?;
+    Ok(told && is_bare(content, entries))
+}
+
+// Whether a slot has the name of a call's content.
+fn is_content(name: &Text) -> bool
+    ensures { result ≡ bytes_eq name.now (codes "inner_block") }
+{
+    name.as_str() == "inner_block"
+}
+
 impl Known {
     fn check_template(&self, alloc: Global, at: Location, name: &Text) -> Result<(), NodeFault>
-        ensures { Judged result (unknowns (location_of at) (unknown_among self.now.templates (name.now ∷ []))) }
+        ensures { Judged result (unknown (location_of at) (first_unknown self.now.templates (name.now ∷ []))) }
     {
         if self.has_template(name.as_str()) {
             return Ok(());
@@ -42,7 +63,7 @@ impl Known {
     }
 
     fn check_modules(&self, alloc: Global, at: Location, names: &Names) -> Result<(), NodeFault>
-        ensures { Judged result (unknowns (location_of at) (unknown_among (declared_in self.now) names.now)) }
+        ensures { Judged result (unknown (location_of at) (first_unknown (declared_in self.now) names.now)) }
     {
         'names: for name in names.as_slice() {
             if !self.has_module(name.as_str()) {
@@ -61,19 +82,19 @@ impl Known {
         content: &SlotBody,
         entries: &Entries,
     ) -> Result<(), NodeFault>
-        ensures { Judged result (live_faults self.now (location_of at) (attributes_view attributes.now) (body_view content.now) (entries_view entries.now)) }
+        ensures { Judged result (live_fault self.now (location_of at) (attributes_view attributes.now) (body_view content.now) (entries_view entries.now)) }
     {
         let modules = module_names(alloc, attributes)?;
         self.check_modules(alloc, at, &modules)?;
         check_doubled(alloc, at, attributes, entries)?;
-        let is_right = is_told(alloc, attributes)? && is_bare(content, entries);
-        check_use(at, !is_right)
+        let right = is_right(alloc, attributes, content, entries)?;
+        check_use(at, !right)
     }
 
     /// Refuses the first fault in nodes.
     #[cycle(check)]
     pub fn check_nodes(&self, alloc: Global, nodes: &Nodes) -> Result<(), NodeFault>
-        ensures { Judged result (faults_in self.now (nodes_view nodes.now)) }
+        ensures { Judged result (fault_in self.now (nodes_view nodes.now)) }
     {
         'nodes: for node in nodes.as_slice() {
             self.check_node(alloc, node)?;
@@ -83,7 +104,7 @@ impl Known {
 
     #[cycle(check)]
     fn check_node(&self, alloc: Global, node: &Node) -> Result<(), NodeFault>
-        ensures { Judged result (faults_of self.now (node_view node.now)) }
+        ensures { Judged result (fault_of self.now (node_view node.now)) }
     {
         match node {
             Node::Text(_) => Ok(()),
@@ -102,7 +123,7 @@ impl Known {
 
     #[cycle(check)]
     fn check_place(&self, alloc: Global, place: &Place, at: Location) -> Result<(), NodeFault>
-        ensures { Judged result (faults_at self.now (location_of at) (place_view place.now)) }
+        ensures { Judged result (fault_at self.now (location_of at) (place_view place.now)) }
     {
         match place {
             Place::Put(_) => Ok(()),
@@ -147,7 +168,7 @@ impl Known {
 
     #[cycle(check)]
     fn check_clauses(&self, alloc: Global, clauses: &Clauses) -> Result<(), NodeFault>
-        ensures { Judged result (clause_faults self.now (clauses_view clauses.now)) }
+        ensures { Judged result (clause_fault self.now (clauses_view clauses.now)) }
     {
         'clauses: for clause in clauses.as_slice() {
             self.check_clause(alloc, clause)?;
@@ -157,21 +178,21 @@ impl Known {
 
     #[cycle(check)]
     fn check_clause(&self, alloc: Global, clause: &Clause) -> Result<(), NodeFault>
-        ensures { Judged result (faults_in self.now (clause_view clause.now).1) }
+        ensures { Judged result (fault_in self.now (clause_view clause.now).1) }
     {
         self.check_nodes(alloc, &clause.body)
     }
 
     #[cycle(check)]
     fn check_body(&self, alloc: Global, body: &SlotBody) -> Result<(), NodeFault>
-        ensures { Judged result (body_faults self.now (body_view body.now)) }
+        ensures { Judged result (body_fault self.now (body_view body.now)) }
     {
         self.check_nodes(alloc, &body.nodes)
     }
 
     #[cycle(check)]
     fn check_entries(&self, alloc: Global, entries: &Entries) -> Result<(), NodeFault>
-        ensures { Judged result (entry_faults self.now (entries_view entries.now)) }
+        ensures { Judged result (entry_fault self.now (entries_view entries.now)) }
     {
         'entries: for entry in entries.as_slice() {
             self.check_entry(alloc, entry)?;
@@ -181,9 +202,9 @@ impl Known {
 
     #[cycle(check)]
     fn check_entry(&self, alloc: Global, entry: &Entry) -> Result<(), NodeFault>
-        ensures { Judged result (faults_in_entry self.now (entry_view entry.now)) }
+        ensures { Judged result (fault_in_entry self.now (entry_view entry.now)) }
     {
-        check_use(entry.at, entry.slot.as_str() == "inner_block")?;
+        check_use(entry.at, is_content(&entry.slot))?;
         self.check_body(alloc, &entry.body)
     }
 }

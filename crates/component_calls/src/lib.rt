@@ -11,7 +11,9 @@ mod judging;
 mod known;
 mod linking;
 mod numbering;
+mod order;
 mod tags;
 
 pub use fault::{LinkFault, LinkKind};
 pub use linking::{LinkedBundle, link};
+pub use order::is_in_order;

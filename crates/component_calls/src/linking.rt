@@ -3,7 +3,7 @@ ghost use Rattle.std.specs.Prelude.{◌≡◌, ◌+◌, [], IfErr, IfOk, IsTrue,
 ghost use Rattle.text_core.specs.Keyed.{ascend};
 ghost use Rattle.ast_core.specs.NodeView.{body_view, nodes_view};
 ghost use Rattle.component_calls.specs.Calls.{call_view, callees, graph_of};
-ghost use Rattle.component_calls.specs.Linking.{IsLawful, IsLinkedBundle, JudgedCycles, JudgedIn, RefusedRightly, Refuses, calls_from, cycle_refusal, known_in, linked_of, linked_view, module_faults, name_at, number_template, number_templates, numbered_templates, refusals_in, template_calls, template_faults, template_name, template_view};
+ghost use Rattle.component_calls.specs.Linking.{IsLawful, IsLinkedBundle, JudgedCycles, JudgedIn, RefusedRightly, Refuses, calls_from, cycle_refusal, known_in, linked_of, linked_view, module_fault, name_at, number_template, number_templates, numbered_templates, refusal_in, template_calls, template_fault, template_name, template_view};
 ghost use Rattle.component_calls.specs.Numbers.{bodies_in};
 
 use crate::calls::{Calls, callees, place_to};
@@ -43,7 +43,7 @@ fn known_in(
 
 // Refuses the first module that is declared already.
 fn check_modules(alloc: Global, components: &Seq<Module>) -> Result<(), LinkFault>
-    ensures { JudgedIn result (module_faults [] components.now) }
+    ensures { JudgedIn result (module_fault [] components.now) }
 {
     let mut seen = Names::new(alloc);
     'components: for component in components.as_slice() {
@@ -60,7 +60,7 @@ fn check_modules(alloc: Global, components: &Seq<Module>) -> Result<(), LinkFaul
 
 // Refuses the first fault in a template.
 fn check_template(alloc: Global, known: &Known, template: &Template) -> Result<(), LinkFault>
-    ensures { JudgedIn result (refusals_in known.now template.now) }
+    ensures { JudgedIn result (refusal_in known.now template.now) }
 {
     match known.check_nodes(alloc, &template.nodes) {
         Ok(()) => Ok(()),
@@ -73,7 +73,7 @@ fn check_template(alloc: Global, known: &Known, template: &Template) -> Result<(
 }
 
 fn check_templates(alloc: Global, known: &Known, templates: &Templates) -> Result<(), LinkFault>
-    ensures { JudgedIn result (template_faults known.now templates.now) }
+    ensures { JudgedIn result (template_fault known.now templates.now) }
 {
     'templates: for template in templates.as_slice() {
         check_template(alloc, known, template)?;

@@ -1,8 +1,8 @@
 //! What a tag says by its attributes and its content.
-ghost use Rattle.std.specs.Prelude.{◌≡◌, [], ◌∷◌, ◌++◌, IfOk, codes};
+ghost use Rattle.std.specs.Prelude.{◌≡◌, [], ◌++◌, IfOk, OnOk};
 ghost use Rattle.ast_core.specs.NodeView.{attributes_view, entries_view, node_view, nodes_view, location_of};
-ghost use Rattle.component_calls.specs.Faults.{Judged, doubled, duplicates, misused};
-ghost use Rattle.component_calls.specs.Tags.{among, all_space, is_blank, is_slot, is_space, modules_of, names_of, node_blank, repeats, slots_of};
+ghost use Rattle.component_calls.specs.Faults.{Judged, doubled, duplicate, misused};
+ghost use Rattle.component_calls.specs.Tags.{all_space, first_among, first_repeat, is_blank, is_slot, is_space, modules_of, names_of, node_blank, slots_of};
 ghost use Rattle.component_calls.specs.Steps.{name_of, module_of_value};
 
 use crate::fault::{LinkKind, NodeFault};
@@ -13,7 +13,7 @@ use text_core::{Names, OutOfMemory, Text};
 
 // Adds the name of an attribute; a spread has none.
 fn push_name(alloc: Global, attribute: &Attribute, names: &mut Names) -> Result<(), OutOfMemory>
-    ensures { IfOk result (λ _. names.new ≡ names.old ++ name_of attribute.now.name attribute.now.value) }
+    ensures { OnOk result (names.new ≡ names.old ++ name_of attribute.now.name attribute.now.value) }
 {
     match &attribute.value {
         AttributeValue::Spread(_) => Ok(()),
@@ -38,7 +38,7 @@ pub(crate) fn attribute_names(alloc: Global, attributes: &Attributes) -> Result<
 
 // Adds the module that an attribute names.
 fn push_module(alloc: Global, attribute: &Attribute, names: &mut Names) -> Result<(), OutOfMemory>
-    ensures { IfOk result (λ _. names.new ≡ names.old ++ module_of_value attribute.now.value) }
+    ensures { OnOk result (names.new ≡ names.old ++ module_of_value attribute.now.value) }
 {
     match &attribute.value {
         AttributeValue::Module(module) => names.push(module.copy(alloc)?),
@@ -74,7 +74,7 @@ fn slot_names(alloc: Global, entries: &Entries) -> Result<Names, OutOfMemory>
 
 // Refuses the first name that repeats one before it.
 fn check_repeats(alloc: Global, at: Location, names: &Names) -> Result<(), NodeFault>
-    ensures { Judged result (duplicates (location_of at) (repeats [] names.now)) }
+    ensures { Judged result (duplicate (location_of at) (first_repeat [] names.now)) }
 {
     let mut seen = Names::new(alloc);
     'names: for name in names.as_slice() {
@@ -89,7 +89,7 @@ fn check_repeats(alloc: Global, at: Location, names: &Names) -> Result<(), NodeF
 
 // Refuses the first name that stands among others.
 fn check_among(alloc: Global, at: Location, names: &Names, others: &Names) -> Result<(), NodeFault>
-    ensures { Judged result (duplicates (location_of at) (among others.now names.now)) }
+    ensures { Judged result (duplicate (location_of at) (first_among others.now names.now)) }
 {
     'names: for name in names.as_slice() {
         if is_one_of(name.as_str(), others.as_slice()) {

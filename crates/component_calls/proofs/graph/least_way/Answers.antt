@@ -15,11 +15,12 @@ returns-in-None c =
 
 pub steps-preserved : goal.steps-preserved
 steps-preserved c =
-    let g = c.args.graph.now in
-    (still_leads g c.args.target c.steps.left c.steps.at c.in-Some.callee c.in_ok-layer.layer c.in_ok-layer.ensures c.in-Some.ensures c.if-callee-target.false,
-    subst (λ (v : List ℕ). (w : List ℕ) → IsLeastWay g c.args.target (c.steps.left - 1) c.in-Some.callee w → IsLeastWay g c.args.target c.args.steps c.args.target (v ++ w)) (sym c.in_ok-push-in-Some.ensures.ok)
-    (way_goes g c.args.target c.args.steps c.steps.left c.steps.at c.in-Some.callee c.steps.way c.in_ok-layer.layer
-    c.steps-test.true c.steps.invariant.1 c.in_ok-layer.ensures c.in-Some.ensures c.if-callee-target.false))
+    let g = c.args.graph.now in (
+      still_leads g c.args.target c.steps.left c.steps.at c.in-Some.callee c.in_ok-layer.layer c.in_ok-layer.ensures c.in-Some.ensures c.if-callee-target.false,
+      subst (λ (v : List ℕ). (w : List ℕ) → IsLeastWay g c.args.target (c.steps.left - 1) c.in-Some.callee w → IsLeastWay g c.args.target c.args.steps c.args.target (v ++ w)) (sym c.in_ok-push-in-Some.ensures.ok)
+          (way_goes g c.args.target c.args.steps c.steps.left c.steps.at c.in-Some.callee c.steps.way c.in_ok-layer.layer
+          c.steps-test.true c.steps.invariant.1 c.in_ok-layer.ensures c.in-Some.ensures c.if-callee-target.false),
+    )
 
 pub returns : goal.returns
 returns c = absurd (one_left c.args.graph.now c.args.target c.steps.left c.steps.at c.steps-test.false c.steps.invariant.0)

@@ -22,9 +22,10 @@ layers-smaller c =
 pub layers-preserved : goal.layers-preserved
 layers-preserved c =
     let less : missing c.in_ok-next.next < missing c.layers.layer =
-        smaller c.args.graph.now c.args.target c.layers.steps c.layers.layer c.in_ok-next.next c.layers.invariant.0 c.in_ok-next.ensures
-        (λ e. true≢false (sym (c.is_same.ensures.1 e) ∙ c.if-is_same.false)) in
-    let bound : c.layers.steps + missing c.layers.layer ≤ length c.args.graph.now = c.layers.invariant.1 in
-    (grown_is c.args.graph.now c.args.target c.layers.steps c.layers.layer c.in_ok-next.next c.layers.invariant.0 c.in_ok-next.ensures,
-    omega (arith, less, bound),
-    all_longer c.args.graph.now c.args.target c.layers.steps c.layers.layer c.has.result c.layers.invariant.0 c.has.ensures c.layers-test.true)
+    smaller c.args.graph.now c.args.target c.layers.steps c.layers.layer c.in_ok-next.next c.layers.invariant.0 c.in_ok-next.ensures
+    (λ e. true≢false (sym (c.is_same.ensures.1 e) ∙ c.if-is_same.false)) in
+    let bound : c.layers.steps + missing c.layers.layer ≤ length c.args.graph.now = c.layers.invariant.1 in (
+      grown_is c.args.graph.now c.args.target c.layers.steps c.layers.layer c.in_ok-next.next c.layers.invariant.0 c.in_ok-next.ensures,
+      omega (arith, less, bound),
+      all_longer c.args.graph.now c.args.target c.layers.steps c.layers.layer c.has.result c.layers.invariant.0 c.has.ensures c.layers-test.true,
+    )
