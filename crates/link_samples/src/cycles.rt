@@ -25,7 +25,7 @@ fn cycles_that_are_named(rt: HostRuntime) -> Result<(), Fail> {
             "<.b />",
             "x <.c><.c /><:s><.b /></:s></.c>",
             "",
-            "b 1:15 Cycle b b",
+            "b 1:17 Cycle b b",
         ),
         ("<.b><.a /></.b>", "", "", "a 1:5 Cycle a a"),
         ("<.b />", "<.c />", "", "ok 0 0 |"),

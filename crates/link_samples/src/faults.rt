@@ -38,7 +38,7 @@ fn unknown_components(rt: HostRuntime) -> Result<(), Fail> {
             "<.live_component module={Nope} />",
             "a 1:1 UnknownComponent Nope",
         ),
-        ("<.b /><.B />", "a 1:7 UnknownComponent B"),
+        ("<.b /><.bb />", "a 1:7 UnknownComponent bb"),
     ] {
         let got = outcome(alloc, &[("a", text), ("b", "x")], &[("Card", "b")])?;
         assert_eq!(rt; got.as_str(), wanted, "at {text}");
