@@ -95,11 +95,14 @@ module _ (t : Nodes) (go : Deeper Items) (a b : Env) where
     where
       by : (q : Res (List ℕ)) → on_res (met_text us) q ≡ Ok old → Answers (IsLean t b p old) (Ok r) (trace_place alone go b p)
       by (Ok u) k =
-          let e : met_text us u ≡ old = cc in
-          (met_text vs x, is ∙ ap (on_res (met_text vs)) shows, record {
-            value = sent.0 ∙ subst (λ i. Some (string x) ≡ option_map change_json (lean_place i (met_text vs x))) e (ap (λ c. option_map change_json (if c then None else Some (write (text x)))) (sym apart));
-            remembered = subst (λ q. Remembers t b q p) (sym sent.1) (no_loop, none);
-          })
+          let e : met_text us u ≡ old = cc in (
+            met_text vs x,
+            is ∙ ap (on_res (met_text vs)) shows,
+            record {
+              value = sent.0 ∙ subst (λ i. Some (string x) ≡ option_map change_json (lean_place i (met_text vs x))) e (ap (λ c. option_map change_json (if c then None else Some (write (text x)))) (sym apart));
+              remembered = subst (λ q. Remembers t b q p) (sym sent.1) (no_loop, none);
+            },
+          )
       by (Err y) k = cc
   flat_again p us vs old (Err f) was is apart no_loop none met h =
       fault_passes TextAnswer (IsLean t b p old) f (shown_at b p) (trace_place alone go b p) (λ e q. is ∙ ap (on_res (met_text vs)) q) h
@@ -127,10 +130,14 @@ module _ (t : Nodes) (go : Deeper Items) (a b : Env) where
   -- no branch now
   pub none_again : (p : Place) (old : Item) (q : model.Print) (o : Option PlaceValue) → is_branching p ≡ true → Answers (IsTaken t) (Ok None) (taken b p) → Remembers t a q p → trace_place alone go a p ≡ Ok old
       → option_seen o ≡ option_map change_json (emptied q) → Lean t go b p old (o, kept.Text)
-  none_again p old q o branching (None, took, is) held met sent = (met_nothing, nothing_met t go a b b p branching took, record {
-    value = sent ∙ ap (option_map change_json) (emptied_lean t go a b p old q held branching met);
-    remembered = subst (λ z. Remembers t b z p) (sym text_print) (no_loop p branching, took);
-  })
+  none_again p old q o branching (None, took, is) held met sent = (
+    met_nothing,
+    nothing_met t go a b b p branching took,
+    record {
+      value = sent ∙ ap (option_map change_json) (emptied_lean t go a b p old q held branching met);
+      remembered = subst (λ z. Remembers t b z p) (sym text_print) (no_loop p branching, took);
+    },
+  )
   none_again p old q o branching (Some d, took, is) held met sent = absurd is
 
   pub choice_fault : (p : Place) (old : Item) (f : RenderFault) → is_branching p ≡ true → Answers (IsTaken t) (Err f) (taken b p) → Answers (IsLean t b p old) (Err f) (trace_place alone go b p)
@@ -195,14 +202,16 @@ module _ (c : Source) (s : Tracked) (outer inner : Tracking) (choice : Choice) (
       → (olds : Items) × (old ≡ met_branch stays.was.index (cut stays.was.nodes) olds)
       × Answers (AreLean t (bind stays.is.variables b) (places_in stays.is.nodes) olds) r (go (bind stays.is.variables b) stays.is.nodes)
   inside_given r h =
-      let m = met_of t go a b a p old stays.was stays.branching stays.taken_before met in
-      (m.inside, m.is,
-      subst (λ e. Answers (AreLean t e (places_in stays.is.nodes) m.inside) r (go e stays.is.nodes)) now_is
-      (subst (λ ns. Answers (AreLean t (scope_now s inner) (places_in ns) m.inside) r (go (scope_now s inner) ns)) stays.chosen.body
-      (h before m.inside settled (noted_entered outer inner choice.bound noted_as entered noted)
-      (ap (λ e. go e (node_at t choice.body)) then_is ∙ ap (go (bind stays.was.variables a)) nodes_are ∙ m.met)
-      (subst (λ e. RemembersAll t e (prints_view places) (places_in (node_at t choice.body))) (sym then_is)
-      (subst (λ ns. RemembersAll t (bind stays.was.variables a) (prints_view places) (places_in ns)) (sym nodes_are) stays.remembered)))))
+      let m = met_of t go a b a p old stays.was stays.branching stays.taken_before met in (
+        m.inside,
+        m.is,
+        subst (λ e. Answers (AreLean t e (places_in stays.is.nodes) m.inside) r (go e stays.is.nodes)) now_is
+            (subst (λ ns. Answers (AreLean t (scope_now s inner) (places_in ns) m.inside) r (go (scope_now s inner) ns)) stays.chosen.body
+            (h before m.inside settled (noted_entered outer inner choice.bound noted_as entered noted)
+            (ap (λ e. go e (node_at t choice.body)) then_is ∙ ap (go (bind stays.was.variables a)) nodes_are ∙ m.met)
+            (subst (λ e. RemembersAll t e (prints_view places) (places_in (node_at t choice.body))) (sym then_is)
+            (subst (λ ns. RemembersAll t (bind stays.was.variables a) (prints_view places) (places_in ns)) (sym nodes_are) stays.remembered)))),
+      )
 
   pub kept_fault : (f : RenderFault) → GivesChanges c s inner choice.body places k (Err f) → Answers (IsLean t b p old) (Err f) (trace_place alone go b p)
   kept_fault f h =
@@ -281,7 +290,7 @@ pub no_print_left : (t : Nodes) (go : Deeper Items) (a b : Env) (all : List Plac
     → Left t go a b all (map (place_in t) (drop i items)) old (prints_view left) sent after → ⊥
 no_print_left t go a b all items i x old left sent after within at none h =
     let k = subst (λ qs. Left t go a b all (place_in t x ∷ map (place_in t) (drop (i + 1) items)) old (prints_view qs) sent after) none
-        (subst (λ ds. Left t go a b all (map (place_in t) ds) old (prints_view left) sent after) (cons_at items i x within at) h) in
+    (subst (λ ds. Left t go a b all (map (place_in t) ds) old (prints_view left) sent after) (cons_at items i x within at) h) in
     k.remembered
 
 none_changes : (o : Items) → changes_seen (lean_places o no_items) ≡ []
@@ -367,14 +376,15 @@ module _ (t : Nodes) (k : ℕ) (a : Env) (as' : List (KeyValue Stored)) (vs : Va
       by : RowsAgain (For l p r n) (x, o, prints_now)
       by met held apart =
           let before = had_before t (trace alone k) a (print_view x) (pattern_view p) (expr_view l) (node_at t n) old held met in
-          let g = h over.0 over.2 in
-          (met_rows (reading b_of (free_place loop)) (cut (node_at t n)) g.0,
-          loop_met (trace alone k) b_of (pattern_view p) (expr_view l) (node_at t n)
-              ∙ ap (λ y. on_res (met_rows (reading b_of (free_place loop)) (cut (node_at t n))) (then_do y (trace_rows (trace alone k) (node_at t n)))) over.1
-              ∙ ap (on_res (met_rows (reading b_of (free_place loop)) (cut (node_at t n)))) g.1,
-          record {
-            value = sent (whole_rows before.rows) (whole_rows g.0) (was ∙ before.had) g.2.rows
-                ∙ sym (ap (option_map change_json) (ap (λ i. lean_place i (met_rows (reading b_of (free_place loop)) (cut (node_at t n)) g.0)) before.is
-                ∙ ap (λ c. if c then None else rows_change (cut (node_at t n)) (whole_rows before.rows) (whole_rows g.0)) apart));
-            remembered = subst (λ z. Remembers t b_of z loop) (sym (rows_print prints_now)) (refl, (over.0, over.1, g.2.remembered));
-          })
+          let g = h over.0 over.2 in (
+            met_rows (reading b_of (free_place loop)) (cut (node_at t n)) g.0,
+            loop_met (trace alone k) b_of (pattern_view p) (expr_view l) (node_at t n)
+                ∙ ap (λ y. on_res (met_rows (reading b_of (free_place loop)) (cut (node_at t n))) (then_do y (trace_rows (trace alone k) (node_at t n)))) over.1
+                ∙ ap (on_res (met_rows (reading b_of (free_place loop)) (cut (node_at t n)))) g.1,
+            record {
+              value = sent (whole_rows before.rows) (whole_rows g.0) (was ∙ before.had) g.2.rows
+                  ∙ sym (ap (option_map change_json) (ap (λ i. lean_place i (met_rows (reading b_of (free_place loop)) (cut (node_at t n)) g.0)) before.is
+                  ∙ ap (λ c. if c then None else rows_change (cut (node_at t n)) (whole_rows before.rows) (whole_rows g.0)) apart));
+              remembered = subst (λ z. Remembers t b_of z loop) (sym (rows_print prints_now)) (refl, (over.0, over.1, g.2.remembered));
+            },
+          )

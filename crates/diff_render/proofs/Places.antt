@@ -173,8 +173,8 @@ module _ (t : Nodes) (k : ℕ) (as' : List (KeyValue Stored)) (vs : Variables) (
   rows_fault bound f (envs, over, are) h = at_loop (λ q. Answers (IsWhole t env q) (Err f) (trace_place alone (trace alone k) env q))
       (fault_passes (AreWholeRows t envs (node_at t b)) (IsWhole t env loop) f (trace_rows (trace alone k) (node_at t b) envs) (trace_place alone (trace alone k) env loop)
       (λ e q. loop_met (trace alone k) env (pattern_view p) (expr_view l) (node_at t b)
-          ∙ ap (λ x. on_res (met_rows (reading env (free_place loop)) (cut (node_at t b))) (then_do x (trace_rows (trace alone k) (node_at t b)))) over
-          ∙ ap (on_res (met_rows (reading env (free_place loop)) (cut (node_at t b)))) q)
+      ∙ ap (λ x. on_res (met_rows (reading env (free_place loop)) (cut (node_at t b))) (then_do x (trace_rows (trace alone k) (node_at t b)))) over
+      ∙ ap (on_res (met_rows (reading env (free_place loop)) (cut (node_at t b)))) q)
       (h envs are))
 
   pub rows_told : (bound : List (List (KeyValue Stored))) (value : PlaceValue) (rows : List Row) (printed_rows : List (List Print)) → Answers (AreScopes as' vs) (Ok bound) (looped env loop)
@@ -226,7 +226,7 @@ pub places_fault : (t : Nodes) (k : ℕ) (env : Env) (ns : Nodes) (items : List 
 places_fault t k env ns items i x values qs f some within at h told =
     fault_passes (IsWhole t env (place_in t x)) (AreWhole t env (places_in ns)) f (trace_place alone (trace alone (k - 1)) env (place_in t x)) (trace alone k env ns)
     (λ e q. below k env ns some ∙ raised t (trace alone (k - 1)) env (places_in ns) (place_in t x) (map (place_in t) (drop (i + 1) items)) seen seen (values_seen values) (prints_view qs) e
-        (subst (λ ds. Progress t (trace alone (k - 1)) env (places_in ns) (map (place_in t) ds) seen seen (values_seen values) (prints_view qs)) (cons_at items i x within at) h) q) told
+    (subst (λ ds. Progress t (trace alone (k - 1)) env (places_in ns) (map (place_in t) ds) seen seen (values_seen values) (prints_view qs)) (cons_at items i x within at) h) q) told
   where
     seen : Items → List Data
     seen is = trees_seen (whole_places is)
@@ -237,7 +237,7 @@ pub places_told : (t : Nodes) (k : ℕ) (env : Env) (ns : Nodes) (items : List D
     → Answers (AreWhole t env (places_in ns)) (Ok (values, qs)) (trace alone k env ns)
 places_told t k env ns items i values qs some past h =
     let w = ended t (trace alone (k - 1)) env (places_in ns) seen seen (values_seen values) (prints_view qs)
-        (subst (λ ds. Progress t (trace alone (k - 1)) env (places_in ns) (map (place_in t) ds) seen seen (values_seen values) (prints_view qs)) (drop_of_length-le items past) h) refl in
+    (subst (λ ds. Progress t (trace alone (k - 1)) env (places_in ns) (map (place_in t) ds) seen seen (values_seen values) (prints_view qs)) (drop_of_length-le items past) h) refl in
     (w.items, below k env ns some ∙ w.met, record { values = sym w.sent_is; remembered = w.remembered })
   where
     seen : Items → List Data

@@ -48,9 +48,14 @@ module _ (t : Nodes) where
     remembers_alike (of_branch c qs) p a b k h =
         (h.0, sym (taken_alike p a b (deciding_read p a b k)) ∙ h.1, h.2, all_alike qs (places_in h.0.nodes) (bind h.0.variables a) (bind h.0.variables b) (at_nodes (bind h.0.variables a) (bind h.0.variables b) h.0.nodes (taken_agrees p a b k h.0 h.1)) h.3)
     remembers_alike (of_rows rs) (for_place p e body) a b k h =
-        let s = over_items a p e body h.1.0 h.1.1 in
-        (refl, (row_scopes b p s.0, ap (on_res (row_scopes b p)) (sym (items_alike p e body a b k) ∙ s.1),
-        rows_alike rs (row_scopes a p s.0) (row_scopes b p s.0) body (rows_agree s.0 p (free_nodes body) a b (agree_right a b (free_names e) (without (bound p) (free_nodes body)) k)) (subst (λ envs. RemembersRows t envs rs body) s.2 h.1.2)))
+        let s = over_items a p e body h.1.0 h.1.1 in (
+          refl,
+          (
+            row_scopes b p s.0,
+            ap (on_res (row_scopes b p)) (sym (items_alike p e body a b k) ∙ s.1),
+            rows_alike rs (row_scopes a p s.0) (row_scopes b p s.0) body (rows_agree s.0 p (free_nodes body) a b (agree_right a b (free_names e) (without (bound p) (free_nodes body)) k)) (subst (λ envs. RemembersRows t envs rs body) s.2 h.1.2),
+          ),
+        )
     remembers_alike (of_rows rs) _ a b k h = absurd (true≢false (sym h.0))
 
     pub all_alike : (qs : Prints) (ps : List Place) (a b : Env) → AgreeAt a b ps → RemembersAll t a qs ps → RemembersAll t b qs ps

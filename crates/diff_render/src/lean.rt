@@ -262,7 +262,10 @@ impl<'a> Lean<'a> {
                 yes: _,
                 no: _,
             }
-            | Dynamic::Case { value, clauses: _ } => tracking.is_changed(self.assigns, value.reads()),
+            | Dynamic::Case { value, clauses: _ } => tracking.is_changed(
+                self.assigns,
+                value.reads(),
+            ),
             Dynamic::For {
                 list: _,
                 pattern: _,

@@ -19,5 +19,5 @@ pub use choice::Choice;
 pub use fault::RenderFault;
 pub use plain::{page_text, render_plain};
 pub use print::{Print, Prints};
-pub use render::{first, next};
 pub(crate) use render::LEVELS;
+pub use render::{first, next};

@@ -7,7 +7,12 @@ fn places_that_read_the_same_assign(rt: HostRuntime) -> Result<(), Fail> {
     let template = "{@b + 1} of {@b + @c}";
     let steps = [
         ("b", "1", "raised", "raised"),
-        ("c", "2", "{\"0\":\"2\",\"1\":\"3\",\"s\":[\"\",\" of \",\"\"]}", "2 of 3"),
+        (
+            "c",
+            "2",
+            "{\"0\":\"2\",\"1\":\"3\",\"s\":[\"\",\" of \",\"\"]}",
+            "2 of 3",
+        ),
         ("b", "2", "{\"0\":\"3\",\"1\":\"4\"}", "3 of 4"),
         ("c", "3", "{\"1\":\"5\"}", "3 of 5"),
         ("c", "\"\"", "raised", "raised"),
@@ -18,7 +23,8 @@ fn places_that_read_the_same_assign(rt: HostRuntime) -> Result<(), Fail> {
 
 #[test]
 fn attributes(rt: HostRuntime) -> Result<(), Fail> {
-    let template = "<div class={@a} title=\"t\"><input type='text' {@b} required disabled={@c}></div>";
+    let template =
+        "<div class={@a} title=\"t\"><input type='text' {@b} required disabled={@c}></div>";
     let steps = [
         ("a", "\"x <y>\"", "raised", "raised"),
         ("b", "null", "raised", "raised"),

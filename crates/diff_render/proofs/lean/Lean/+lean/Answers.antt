@@ -189,8 +189,8 @@ places-returns-in_err-change-clause-changes t c before old settled noted met hel
     let ns = node_at s c.args.body in
     let f = c.in_err-change.field-0.0 in
     let h = left_fault s (trace alone (c.args.levels - 1)) (scope_then before c.args.tracking.now) b (places_in ns) c.dynamics-dynamic-items.result.now
-        c.places.dynamic-index c.dynamic-item.result old c.in-Some.print (into_iter_items c.places.before) (into_iter_items c.next.new.self) c.places.changes c.places.after c.places-test.true c.dynamic-item.is c.in-Some.ensures.items
-        (c.places.invariant.going before old settled noted met held) f
-        (λ o was shown. (subst (λ tr. GivesChange c.args.self.compiled.now c.args.self.assigns.now tr (place_in s c.dynamic-item.result) c.in-Some.print (c.args.levels - 1) (Err f)) c.places.invariant.same c.in_err-change.ensures.change) before o settled noted was shown) in
+    c.places.dynamic-index c.dynamic-item.result old c.in-Some.print (into_iter_items c.places.before) (into_iter_items c.next.new.self) c.places.changes c.places.after c.places-test.true c.dynamic-item.is c.in-Some.ensures.items
+    (c.places.invariant.going before old settled noted met held) f
+    (λ o was shown. (subst (λ tr. GivesChange c.args.self.compiled.now c.args.self.assigns.now tr (place_in s c.dynamic-item.result) c.in-Some.print (c.args.levels - 1) (Err f)) c.places.invariant.same c.in_err-change.ensures.change) before o settled noted was shown) in
     let k = answers_of (AreLean s b (places_in ns) old) (Err f) _ (trace alone c.args.levels b ns) (sym (below c.args.levels b ns c.if-levels-eq0.false)) h in
     search (rules, k)

@@ -14,7 +14,7 @@ returns-clause-change c p old is branching took choice_is apart =
     let s = syntax_of c.args.self.compiled.now in
     let b = scope_now c.args.self.assigns.now c.args.tracking.now in
     let given = subst (λ cw. GivesBranch cw c.args.self.assigns.now.present c.args.tracking.now.variables c.args.choice c.args.levels (Ok (c.in_ok-value.value, c.in_ok-value.print))) c.whole-whole.ensures.compiled
-        (subst (λ as'. GivesBranch c.whole-whole.result.compiled.now as' c.args.tracking.now.variables c.args.choice c.args.levels (Ok (c.in_ok-value.value, c.in_ok-value.print))) c.whole-whole.ensures.assigns c.in_ok-value.ensures.branch) in
+    (subst (λ as'. GivesBranch c.whole-whole.result.compiled.now as' c.args.tracking.now.variables c.args.choice c.args.levels (Ok (c.in_ok-value.value, c.in_ok-value.print))) c.whole-whole.ensures.assigns c.in_ok-value.ensures.branch) in
     entered_told s c.args.levels b b p old c.args.choice is c.in_ok-value.value c.in_ok-value.print branching took choice_is apart (given is choice_is)
 
 pub returns-in_err-value-clause-change : goal.returns-in_err-value-clause-change
@@ -23,6 +23,6 @@ returns-in_err-value-clause-change c p old is branching took choice_is apart =
     let b = scope_now c.args.self.assigns.now c.args.tracking.now in
     let f = c.in_err-value.field-0.0 in
     let given = subst (λ cw. GivesBranch cw c.args.self.assigns.now.present c.args.tracking.now.variables c.args.choice c.args.levels (Err f)) c.whole-whole.ensures.compiled
-        (subst (λ as'. GivesBranch c.whole-whole.result.compiled.now as' c.args.tracking.now.variables c.args.choice c.args.levels (Err f)) c.whole-whole.ensures.assigns c.in_err-value.ensures.branch) in
+    (subst (λ as'. GivesBranch c.whole-whole.result.compiled.now as' c.args.tracking.now.variables c.args.choice c.args.levels (Err f)) c.whole-whole.ensures.assigns c.in_err-value.ensures.branch) in
     let h = entered_fault s c.args.levels b b p old c.args.choice is f branching took (given is choice_is) in
     search (rules, h)

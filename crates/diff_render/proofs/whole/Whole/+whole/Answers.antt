@@ -25,11 +25,14 @@ use Rattle.diff_render.proofs.whole.Whole.+whole.Goals as goal
 pub node-returns-clause-node : goal.node-returns-clause-node
 node-returns-clause-node t c =
     let ns = node_at (syntax_of c.args.self.compiled.now) c.args.body in
-    let h = c.in_ok-values.ensures.places in
-    (h.0, h.1, record {
-      json = node_made c.new.result c.in_ok-statics.statics ns c.in_ok-places.places c.in_ok-values.values (whole_places h.0) c.new.ensures.data (c.in_ok-statics.ensures ∙ c.statics.ensures) c.in_ok-places.ensures h.2.values;
-      remembered = h.2.remembered;
-    })
+    let h = c.in_ok-values.ensures.places in (
+      h.0,
+      h.1,
+      record {
+        json = node_made c.new.result c.in_ok-statics.statics ns c.in_ok-places.places c.in_ok-values.values (whole_places h.0) c.new.ensures.data (c.in_ok-statics.ensures ∙ c.statics.ensures) c.in_ok-places.ensures h.2.values;
+        remembered = h.2.remembered;
+      },
+    )
 
 -- ---- a place
 
