@@ -23,7 +23,7 @@ use Rattle.client_merge.specs.Frames.{without_events}
 use Rattle.client_merge.proofs.Members.{chain, places_chain, part_of, s_key}
 use Rattle.client_merge.proofs.Sent.{sent_places, sent_list}
 use Rattle.client_merge.proofs.JsonBack.{Absent}
-use Rattle.client_merge.proofs.Events.{e_key, is_e, apart, plain_same}
+use Rattle.client_merge.proofs.Events.{e_key, is_e, plain_same}
 
 -- ---- places
 
@@ -59,7 +59,7 @@ chain_without (x ∷ es) h = by (order e_key x.key) refl (chain_without es p.1)
     by Less is rest = other Less is refl rest
     by Equal is rest =
         ap (λ (b : Bool). if b then without e_key (chain es) else member x.key (place_data x.value) (without e_key (chain es))) (is_e x.key Equal is)
-        ∙ plain_same (chain es) (above es (subst (λ k. is_before k (keys es) ≡ true) (sym (exact_bytes e_key x.key is)) p.0) p.1)
+        ∙ plain_same e_key (chain es) (above es (subst (λ k. is_before k (keys es) ≡ true) (sym (exact_bytes e_key x.key is)) p.0) p.1)
         ∙ sym (ap (λ (b : Bool). chain (if b then es else x ∷ without_key e_key es)) (sym (is_eq-slice_cmp e_key x.key) ∙ ap is_eq is))
     by Greater is rest = other Greater is refl rest
 

@@ -1,8 +1,6 @@
 -- Trees and diffs beside pushed events: without `e` they are what they were.
 use Rattle.std.proofs.Common.{◌≡◌, ℕ, suc, ◌+◌, ◌≤◌, ◌^◌, List, [], ◌∷◌, Bool, true, false, if◌then◌else◌, refl, sym, ap, ◌∙◌, arith, codes, true≢false, Ordering, Less, Equal, Greater}
-use Rattle.std.specs.Ordering.{is_eq, ordering_reverse, match_ordering}
-use Rattle.std.specs.Cmp.Lexicographic.{nat_list_cmp_total}
-use Rattle.std.proofs.lemmas.Map.Text.{is_eq-slice_cmp}
+use Rattle.std.specs.Ordering.{is_eq, match_ordering}
 use Rattle.std.specs.Str.{bytes_eq}
 use Rattle.std.specs.Fmt.{decimal}
 use Rattle.std.proofs.lemmas.Map.Lookups.{exact_bytes}
@@ -13,30 +11,27 @@ use Rattle.diff_tree.specs.Spelling.{Pushed, events_json, with_events, tree_json
 use Rattle.diff_tree.specs.Grammar.{is_place, without}
 use Rattle.diff_tree.proofs.Members.{keeps_if, drops_if}
 use Rattle.client_merge.specs.Laws.{reach}
+use Rattle.client_merge.proofs.Members.{key_is}
 use Rattle.client_merge.proofs.JsonBack.{Absent, absent_put, decimal_is_place}
 
 abbrev pub e_key : List ℕ
 e_key = codes "e"
 
 pub is_e : (l : List ℕ) (o : Ordering) → order e_key l ≡ o → bytes_eq l e_key ≡ is_eq o
-is_e l o is = sym (is_eq-slice_cmp l e_key) ∙ ap is_eq (nat_list_cmp_total.antisymm l e_key ∙ ap ordering_reverse is) ∙ by o
-  where
-    by : (o : Ordering) → is_eq (ordering_reverse o) ≡ is_eq o
-    by Less = refl
-    by Equal = refl
-    by Greater = refl
+is_e l o is = key_is e_key l o is
 
-pub apart : (l : List ℕ) → (order e_key l ≡ Equal → ⊥) → bytes_eq l e_key ≡ false
-apart l h = by (order e_key l) refl
+apart : (k l : List ℕ) → (order k l ≡ Equal → ⊥) → bytes_eq l k ≡ false
+apart k l h = by (order k l) refl
   where
-    by : (o : Ordering) → order e_key l ≡ o → bytes_eq l e_key ≡ false
-    by Less is = is_e l Less is
+    by : (o : Ordering) → order k l ≡ o → bytes_eq l k ≡ false
+    by Less is = key_is k l Less is
     by Equal is = absurd (h is)
-    by Greater is = is_e l Greater is
+    by Greater is = key_is k l Greater is
 
-pub plain_same : (ms : Members) → Absent e_key ms → without e_key ms ≡ ms
-plain_same no_members h = refl
-plain_same (member l d ms) h = keeps_if (bytes_eq l e_key) e_key l d ms ms (apart l h.0) (plain_same ms h.1)
+-- where a key is not there nothing goes
+pub plain_same : (k : List ℕ) (ms : Members) → Absent k ms → without k ms ≡ ms
+plain_same k no_members h = refl
+plain_same k (member l d ms) h = keeps_if (bytes_eq l k) k l d ms ms (apart k l h.0) (plain_same k ms h.1)
 
 gone_put : (d : Data) (ms : Members) → without e_key (put e_key d ms) ≡ without e_key ms
 gone_put d no_members = refl
@@ -55,7 +50,7 @@ events_gone (e ∷ es) ms = gone_put (array (events_json (e ∷ es))) ms
 
 -- and the other members stay
 pub events_out : (es : List Pushed) (ms : Members) → Absent e_key ms → without e_key (with_events es ms) ≡ ms
-events_out es ms h = events_gone es ms ∙ plain_same ms h
+events_out es ms h = events_gone es ms ∙ plain_same e_key ms h
 
 -- ---- no key of the JSON of trees and of changes is `e`
 

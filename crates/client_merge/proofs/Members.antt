@@ -155,13 +155,16 @@ changes_chain (e ∷ es) cs = by (bytes_eq e.key (codes "s")) (changes_chain es)
 
 -- ---- `s`
 
-pub is_s : (l : List ℕ) (o : Ordering) → order s_key l ≡ o → bytes_eq l s_key ≡ is_eq o
-is_s l o is = sym (is_eq-slice_cmp l s_key) ∙ ap is_eq (nat_list_cmp_total.antisymm l s_key ∙ ap ordering_reverse is) ∙ by o
+pub key_is : (k l : List ℕ) (o : Ordering) → order k l ≡ o → bytes_eq l k ≡ is_eq o
+key_is k l o is = sym (is_eq-slice_cmp l k) ∙ ap is_eq (nat_list_cmp_total.antisymm l k ∙ ap ordering_reverse is) ∙ by o
   where
     by : (o : Ordering) → is_eq (ordering_reverse o) ≡ is_eq o
     by Less = refl
     by Equal = refl
     by Greater = refl
+
+pub is_s : (l : List ℕ) (o : Ordering) → order s_key l ≡ o → bytes_eq l s_key ≡ is_eq o
+is_s l o is = key_is s_key l o is
 
 pub part_is : (p : Part) → part_data p ≡ sent_node (statics_of p) (body_of p)
 part_is p = part_data-out p
