@@ -110,7 +110,7 @@ abbrev pub chain : List (KeyValue PlaceValue) → Members
 chain [] = no_members
 chain (e ∷ es) = member e.key (place_data e.value) (chain es)
 
-places_chain : (es : List (KeyValue PlaceValue)) → ascend (keys es) ≡ true → places_json (seen es) ≡ chain es
+pub places_chain : (es : List (KeyValue PlaceValue)) → ascend (keys es) ≡ true → places_json (seen es) ≡ chain es
 places_chain [] h = refl
 places_chain (e ∷ []) h = refl
 places_chain (e ∷ f ∷ es) h =
