@@ -1,5 +1,5 @@
 -- A root without what stands under `e`.
-use Rattle.std.proofs.Common.{◌≡◌, ℕ, List, [], ◌∷◌, Option, Some, None, Bool, true, false, if◌then◌else◌, refl, sym, ap, ◌∙◌, subst, codes, Ordering, Less, Equal, Greater}
+use Rattle.std.proofs.Common.{◌≡◌, ℕ, List, [], ◌∷◌, Option, Some, None, Bool, true, false, if◌then◌else◌, refl, sym, ap, ◌∙◌, subst, Ordering, Less, Equal, Greater}
 use Rattle.std.specs.Ordering.{is_lt, is_eq, match_ordering}
 use Rattle.std.specs.Str.{bytes_eq}
 use Rattle.std.proofs.lemmas.Map.Text.{is_eq-slice_cmp}
@@ -11,7 +11,7 @@ use Rattle.text_core.proofs.Keyed.{order, both_of, without_ascends}
 use Rattle.diff_tree.specs.Plain.{names}
 use Rattle.diff_tree.specs.Spelling.{texts_json}
 use Rattle.diff_tree.specs.Grammar.{without}
-use Rattle.diff_tree.specs.Parts.{part_data, place_data, places_json, seen, with_statics, node_data, list_data, statics_of, body_of}
+use Rattle.diff_tree.specs.Parts.{part_data, place_data, with_statics, node_data, list_data, statics_of, body_of}
 use Rattle.diff_tree.specs.declared.part.Part.{Part}
 use Rattle.diff_tree.specs.declared.part.PartBody.TheVariants as body
 use Rattle.diff_tree.specs.declared.part.PlaceValue.{PlaceValue}

@@ -21,7 +21,7 @@ use Rattle.diff_tree.specs.Tree.{Tree, node, Trees, Rows, no_rows, Change, write
 use Rattle.diff_tree.specs.Client.{and_then}
 use Rattle.diff_tree.specs.Spelling.{texts_json}
 use Rattle.diff_tree.specs.Grammar.{is_place}
-use Rattle.diff_tree.specs.Parts.{part_data, place_data, part_step, place_step, body_step, row_step, body_members, places_json, seen, with_statics, row_data, node_data, list_data, statics_of, body_of}
+use Rattle.diff_tree.specs.Parts.{part_data, place_data, part_step, place_step, body_step, row_step, body_members, places_json, seen, row_data, node_data, statics_of, body_of}
 use Rattle.diff_tree.proofs.Written.{part_data-out}
 use Rattle.diff_tree.specs.declared.part.Part.{Part}
 use Rattle.diff_tree.specs.declared.part.PartBody.{PartBody}

@@ -1,12 +1,12 @@
 -- The root of a diff, and the diff as JSON.
-use Rattle.std.proofs.Common.{◌≡◌, ◌⊎◌, inl, inr, ℕ, List, [], ◌∷◌, length, arith, map, Option, Some, None, is_some, Bool, true, false, if◌then◌else◌, refl, sym, ap, ◌∙◌, subst, codes, Ordering, Less, Equal, Greater}
+use Rattle.std.proofs.Common.{◌≡◌, ◌⊎◌, inl, inr, ℕ, List, [], ◌∷◌, length, arith, map, Option, None, is_some, Bool, true, false, if◌then◌else◌, refl, sym, ap, ◌∙◌, subst, codes, Ordering, Less, Equal, Greater}
 use Rattle.std.specs.Ordering.{match_ordering}
 use Rattle.std.specs.Str.{bytes_eq}
 use Rattle.std.proofs.lemmas.Map.Lookups.{exact_bytes}
 use Rattle.serde_json.specs.Data.{Data, object, Members, no_members, member, put}
 use Rattle.serde_json.specs.Find.{get_member}
 use Rattle.text_core.proofs.Keyed.{order}
-use Rattle.diff_tree.specs.Tree.{Rows, no_rows, Change, Changes, no_changes}
+use Rattle.diff_tree.specs.Tree.{Rows, no_rows, Changes, no_changes}
 use Rattle.diff_tree.specs.Client.{and_then}
 use Rattle.diff_tree.specs.Spelling.{Pushed, with_events, with_components, members_of}
 use Rattle.diff_tree.specs.Grammar.{is_place, without}
