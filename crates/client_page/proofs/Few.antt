@@ -1,5 +1,5 @@
 -- Bodies of fewer than 2^64 places.
-use Rattle.std.proofs.Common.{◌≡◌, ℕ, ◌+◌, ◌<◌, ◌^◌, List, [], ◌∷◌, ◌++◌, length, map, sum, arith}
+use Rattle.std.proofs.Common.{◌+◌, ◌<◌, ◌^◌, List, [], ◌∷◌, ◌++◌, length, map, sum, arith}
 use Rattle.ast_core.specs.Syntax.{Attributes, no_attributes, written, valued, spread_of, module_of, Node, text_node, element, at_place, Place, Nodes, no_nodes, node}
 use Rattle.ast_core.specs.Places.{places_in, places_of, places_of_attributes}
 use Rattle.slot_compile.specs.Numbering.{bodies_in, bodies_of, bodies_at, all_bodies, place_count}
@@ -18,7 +18,9 @@ few_right (x ∷ xs) ys h = few_right xs ys h.1
 
 sum_few : (xs : List Nodes) → sum (map (λ ns. length (places_in ns)) xs) < 2 ^ 64 → AllFew xs
 sum_few [] h = tt
-sum_few (x ∷ xs) h = (omega (arith, h), sum_few xs (omega (arith, h)))
+sum_few (x ∷ xs) h =
+    let all : length (places_in x) + sum (map (λ ns. length (places_in ns)) xs) < 2 ^ 64 = h in
+    (omega (arith, all), sum_few xs (omega (arith, all)))
 
 -- all bodies of a template that has few places altogether
 pub count_few : (ns : Nodes) → place_count ns < 2 ^ 64 → AllFew (all_bodies ns)

@@ -6,14 +6,14 @@ use Rattle.std.specs.Fmt.{decimal}
 use Rattle.std.proofs.lemmas.Map.Lookups.{exact_bytes}
 use Rattle.std.proofs.lemmas.Fmt.{decimal_injective}
 use Rattle.std.proofs.lemmas.Bool.Decides.{eqb_tells}
-use Rattle.serde_json.specs.Data.{Data, array, object, Items, Members, no_members, member, put}
+use Rattle.serde_json.specs.Data.{Data, array, object, Members, no_members, member, put}
 use Rattle.serde_json.specs.Events.{items_len, members_len}
 use Rattle.serde_json.specs.Find.{get_member}
 use Rattle.serde_json.specs.Written.{has_float, items_have_float, members_have_float}
 use Rattle.serde_json.proofs.Views.{get_member-put, get_member-put_other}
 use Rattle.text_core.proofs.Keyed.{order}
 use Rattle.diff_tree.specs.Tree.{Tree, text, number, node, list, stream, held, Trees, no_trees, tree, count, Rows, no_rows, row, Change, write, inner, rows, batch, Changes, no_changes, skip, change}
-use Rattle.diff_tree.specs.Grammar.{is_place, is_value, are_places, are_texts, are_statics, statics_fit, surround, has_places, have_length, are_listed, list_fits, is_rows, are_rows, are_values}
+use Rattle.diff_tree.specs.Grammar.{is_place, is_value, are_places, are_texts, are_statics, statics_fit, surround, has_places, have_length, are_listed, list_fits, are_rows, are_values}
 use Rattle.diff_tree.specs.Spelling.{texts_json, tree_json, trees_json, row_json, rows_json, change_json, changes_json}
 use Rattle.wire_v2.specs.FrameGrammar.{is_whole_node, are_whole, items_are_whole}
 use Rattle.client_merge.specs.Laws.{reach}

@@ -1,5 +1,5 @@
 -- What a process of a plain world sends is JSON of frames.
-use Rattle.std.proofs.Common.{◌≡◌, ℕ, suc, ◌<◌, ◌^◌, List, [], ◌∷◌, length, Option, Some, None, is_some, Bool, true, false, ◌&&◌, refl, sym, ap, ◌∙◌, subst, codes}
+use Rattle.std.proofs.Common.{◌≡◌, ℕ, suc, ◌<◌, ◌^◌, List, length, Option, Some, None, is_some, Bool, true, false, ◌&&◌, refl, sym, ap, ◌∙◌, subst, codes}
 use Rattle.serde_json.specs.Data.{Data, string, object}
 use Rattle.serde_json.specs.Written.{has_float}
 use Rattle.diff_tree.specs.Tree.{node}

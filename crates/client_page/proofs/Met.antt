@@ -1,5 +1,5 @@
 -- What plain templates meet: texts, branches and rows, one item for each place.
-use Rattle.std.proofs.Common.{◌≡◌, ℕ, zero, suc, ◌<◌, ◌^◌, List, [], ◌∷◌, length, map, Ok, Err, Option, Some, None, Bool, true, false, if◌then◌else◌, refl, sym, ap, ◌∙◌, subst, true≢false}
+use Rattle.std.proofs.Common.{◌≡◌, ℕ, zero, suc, ◌<◌, ◌^◌, List, [], ◌∷◌, length, Ok, Err, Option, Some, None, Bool, true, false, if◌then◌else◌, refl, sym, ap, ◌∙◌, subst, true≢false}
 use Rattle.std.specs.List.{list_all}
 use Rattle.text_core.specs.Escape.{escape_text}
 use Rattle.value_core.specs.Value.{Value, Assigns}
@@ -7,16 +7,16 @@ use Rattle.ast_core.specs.Syntax.{put, attribute, spread, if_place, case_place, 
 use Rattle.ast_core.specs.Free.{free_names, free_place}
 use Rattle.ast_core.specs.Places.{cut, places_in}
 use Rattle.slot_compile.specs.Template.{is_plain, all_plain, clauses_plain}
-use Rattle.slot_compile.specs.Numbering.{all_bodies, bodies_in, bodies_at, clause_bodies, else_bodies}
+use Rattle.slot_compile.specs.Numbering.{all_bodies, bodies_at, clause_bodies, else_bodies}
 use Rattle.slot_compile.proofs.Plains.{plain_places}
 use Rattle.doc_model.specs.Environment.{Env, binding, bind, reading}
-use Rattle.doc_model.specs.Evaluation.{Res, then_do, both, on_res, eval_expr, printed, is_true}
+use Rattle.doc_model.specs.Evaluation.{Res, then_do, on_res, eval_expr, printed, is_true}
 use Rattle.doc_model.specs.Printing.{print_attribute, print_spread}
 use Rattle.doc_model.specs.Calls.{items_of}
 use Rattle.doc_model.specs.Scopes.{Site, Deeper, Chosen, chosen, later, row_scopes}
-use Rattle.doc_model.specs.Trace.{Items, no_items, item, Item, met_text, met_nothing, met_branch, met_rows, met_call, met_slots, met_component, met_stream, ItemRows, no_item_rows, item_row}
+use Rattle.doc_model.specs.Trace.{Items, no_items, item, Item, met_text, met_nothing, met_branch, met_rows, ItemRows, no_item_rows, item_row}
 use Rattle.doc_model.specs.Tracing.{trace, trace_rows, trace_else, trace_place, trace_places}
-use Rattle.doc_model.specs.Walk.{Views, Walk, plainly, pass, at_end_of_walk, render_state}
+use Rattle.doc_model.specs.Walk.{Views, Walk, pass, at_end_of_walk, render_state}
 use Rattle.doc_model.proofs.Results.{On, on_made, on_bind, on_both, on_weaker}
 use Rattle.doc_model.proofs.Sames.{both_true}
 use Rattle.doc_model.proofs.Weave.{Fit, fit_nodes}

@@ -1,5 +1,5 @@
 -- What is read from a text has the keys of objects in order, and beside floats whole numbers of 64 bits.
-use Rattle.std.proofs.Common.{◌≡◌, ℕ, zero, suc, ◌^◌, ◌==◌, ◌&&◌, ◌<◌, List, [], ◌∷◌, drop, slice_index, nat_lt, nat_le, Option, Some, None, option_map, option_and_then, Bool, true, false, if◌then◌else◌, refl, sym, ap, ◌∙◌, arith, true≢false, Ordering, Less, Equal, Greater}
+use Rattle.std.proofs.Common.{◌≡◌, ℕ, zero, suc, ◌^◌, ◌==◌, ◌&&◌, ◌||◌, List, drop, slice_index, nat_lt, nat_le, Option, Some, None, option_map, option_and_then, Bool, true, false, if◌then◌else◌, refl, sym, ap, ◌∙◌, true≢false, Ordering, Less, Equal, Greater}
 use Rattle.std.specs.Ordering.{is_lt, ordering_reverse, match_ordering}
 use Rattle.std.specs.Cmp.Lexicographic.{nat_list_cmp_total}
 use Rattle.std.specs.Float.{binary64, float_is_finite}
@@ -9,7 +9,8 @@ use Rattle.json.specs.Token.{Token}
 use Rattle.json.specs.Lex.{tokens}
 use Rattle.serde_json.specs.Data.{Num, unsigned, negative, float, Data, null, boolean, number, string, array, object, Items, no_items, item, Members, no_members, member, put}
 use Rattle.serde_json.specs.Read.{is_integer, float_of, number_from, number_of, of_json, of_items, of_members, read, max_depth}
-use Rattle.serde_json.specs.Written.{is_float, has_float, items_have_float, members_have_float}
+use Rattle.serde_json.specs.Find.{is_float}
+use Rattle.serde_json.specs.Written.{has_float, items_have_float, members_have_float}
 use Rattle.text_core.specs.Keyed.{is_before, ascend}
 use Rattle.text_core.proofs.Keyed.{order}
 use Rattle.diff_tree.specs.Plain.{names, is_whole_number, is_plain, items_are_plain, members_are_plain}
@@ -42,7 +43,7 @@ plus_tidy p = by (is_integer p) (nat_lt (digits_of p) (2 ^ 64)) refl
 
 minus_whole : (n : ℕ) → nat_lt 0 n ≡ true → nat_le n (2 ^ 63) ≡ true → is_whole_number (negative (with_sign true n)) ≡ true
 minus_whole zero h g = cc
-minus_whole (suc n) h g = ?
+minus_whole (suc n) h g = g
 
 minus_tidy : (p : Parts) → NumberTidy (number_from true p)
 minus_tidy p = by (is_integer p) (nat_lt 0 (digits_of p)) (nat_le (digits_of p) (2 ^ 63)) refl refl

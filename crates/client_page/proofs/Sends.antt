@@ -1,5 +1,5 @@
 -- What a process of a plain world sends: texts, nodes and lists alone.
-use Rattle.std.proofs.Common.{◌≡◌, ℕ, ◌<◌, ◌^◌, suc, List, [], ◌∷◌, ◌++◌, length, Option, Some, None, sym, ap, ◌∙◌, subst}
+use Rattle.std.proofs.Common.{ℕ, List, [], ◌∷◌, ◌++◌, Option, Some, None, sym, subst}
 use Rattle.diff_tree.specs.Client.{PageDiff}
 use Rattle.diff_tree.specs.Spelling.{Pushed}
 use Rattle.diff_tree.specs.Frame.{Frame, FrameBody, empty, rendered, changed, refusal, no_cids, push, closed, faulted}
@@ -16,7 +16,7 @@ use Rattle.doc_model.proofs.Journals.{Draws, walk_before, drawn}
 use Rattle.client_merge.specs.Alike.{IsSmallBody, IsSmallDiff}
 use Rattle.client_page.specs.Shown.{IsPlainWorld}
 use Rattle.client_page.proofs.Few.{count_few}
-use Rattle.client_page.proofs.Met.{how_many, Meets, around, few_met, Rendered}
+use Rattle.client_page.proofs.Met.{Meets, around, few_met, Rendered}
 use Rattle.client_page.proofs.Drawn.{drawn_plainly}
 use Rattle.client_page.proofs.Trees.{FewRight, page_small, diff_small}
 use Rattle.client_page.proofs.Fitting.{BodyFits, whole_fits, told_fits}

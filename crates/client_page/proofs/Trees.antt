@@ -1,11 +1,10 @@
 -- Trees and changes of plain templates: texts, nodes and lists alone, with statics around the places of each node and of each row.
 use Rattle.std.proofs.Common.{◌≡◌, ◌⊎◌, inl, inr, ℕ, suc, ◌<◌, ◌≤◌, ◌^◌, ◌==◌, ◌&&◌, List, [], ◌++◌, length, Option, Some, None, Bool, true, false, if◌then◌else◌, refl, sym, ap, ◌∙◌, subst, arith}
 use Rattle.std.proofs.lemmas.Bool.Decides.{eqb_tells}
-use Rattle.value_core.specs.Value.{Value}
 use Rattle.diff_tree.specs.Tree.{Tree, text, number, node, list, stream, held, Trees, no_trees, tree, count, Rows, no_rows, row, all_fit, Change, write, inner, rows, batch, Changes, no_changes, skip, change}
 use Rattle.doc_model.specs.Environment.{same_reading}
 use Rattle.doc_model.specs.Trace.{Items, no_items, item, Item, met_text, met_nothing, met_branch, met_rows, met_call, met_slots, met_component, met_stream, ItemRows, no_item_rows, item_row}
-use Rattle.doc_model.specs.Whole.{whole_places, whole_place, whole_rows, rows_tree}
+use Rattle.doc_model.specs.Whole.{whole_places, whole_place, whole_rows}
 use Rattle.doc_model.specs.Lean.{is_empty, unless_empty, option_change, rows_change, lean_places, lean_place}
 use Rattle.doc_model.specs.Components.{parts, parts_of, parts_of_rows, part_at, option_tree, part_numbers, whole_tree, lean_parts, lean_diff}
 use Rattle.client_merge.specs.Laws.{IsSmall, AreSmall, RowsAreSmall, ChangeIsSmall, ChangesAreSmall, reach}
