@@ -5,8 +5,7 @@ use Rattle.serde_json.specs.Data.{Data}
 use Rattle.serde_json.specs.Read.{read}
 use Rattle.diff_tree.specs.Tree.{Tree, Change, merge_change}
 use Rattle.diff_tree.specs.Client.{and_then}
-use Rattle.diff_tree.specs.Grammar.{is_node}
-use Rattle.diff_tree.specs.Parts.{part_data, diff_data, root_of}
+use Rattle.diff_tree.specs.Parts.{diff_data}
 use Rattle.diff_tree.specs.declared.diff.Diff.{Diff}
 use Rattle.wire_v2.specs.declared.frame.Frame.{Frame}
 use Rattle.wire_v2.specs.declared.frame.FrameBody.{FrameBody}
@@ -39,38 +38,32 @@ reads_none bytes h held = by (is_utf8 bytes) refl
     by true u = found (read bytes) u refl
     by false u = refl
 
--- ---- a frame is taken as its body, where the root that it sends is a node
+-- ---- a frame is taken as its body
 
-abbrev pub SendsNode : FrameBody → Type 0
-SendsNode (body.Rendered d) = is_node (part_data (root_of d)) ≡ true
-SendsNode (body.Changed d) = is_node (part_data (root_of d)) ≡ true
-SendsNode (body.Pushed d) = is_node (part_data (root_of d)) ≡ true
-SendsNode _ = Unit {0}
-
-sent_with : (f : Change → Option Tree) (d : Diff) → is_node (part_data (root_of d)) ≡ true → and_then (change_of (without_events (diff_data d))) f ≡ and_then (root_sent d) (λ x. and_then (change_of x) f)
-sent_with f d h = ap (λ (o : Option Change). and_then o f) (diff_read d h) ∙ by (root_sent d)
+sent_with : (f : Change → Option Tree) (d : Diff) → and_then (change_of (without_events (diff_data d))) f ≡ and_then (root_sent d) (λ x. and_then (change_of x) f)
+sent_with f d = ap (λ (o : Option Change). and_then o f) (diff_read d) ∙ by (root_sent d)
   where
     by : (o : Option Data) → and_then (and_then o change_of) f ≡ and_then o (λ x. and_then (change_of x) f)
     by None = refl
     by (Some x) = refl
 
-changed_taken : (held : Option Tree) (d : Diff) → is_node (part_data (root_of d)) ≡ true → merged_page held (without_events (diff_data d)) ≡ and_then (root_sent d) (merged_page held)
-changed_taken None d h = by (root_sent d)
+changed_taken : (held : Option Tree) (d : Diff) → merged_page held (without_events (diff_data d)) ≡ and_then (root_sent d) (merged_page held)
+changed_taken None d = by (root_sent d)
   where
     by : (o : Option Data) → None ≡ and_then o (merged_page None)
     by None = refl
     by (Some x) = refl
-changed_taken (Some t) d h = sent_with (merge_change t) d h
+changed_taken (Some t) d = sent_with (merge_change t) d
 
-pub body_taken : (held : Option Tree) (b : FrameBody) → SendsNode b → after_event held (event_name b) (payload_data b) ≡ after_body held b
-body_taken held body.Empty h = refl
-body_taken held (body.Rendered d) h = ap page_with (sent_with written d h)
-body_taken held (body.Changed d) h = ap page_with (changed_taken held d h)
-body_taken held (body.Refusal reason) h = refl
-body_taken held body.NoCids h = refl
-body_taken held (body.Pushed d) h = ap page_with (changed_taken held d h)
-body_taken held body.Closed h = refl
-body_taken held (body.Faulted reason) h = refl
+body_taken : (held : Option Tree) (b : FrameBody) → after_event held (event_name b) (payload_data b) ≡ after_body held b
+body_taken held body.Empty = refl
+body_taken held (body.Rendered d) = ap page_with (sent_with written d)
+body_taken held (body.Changed d) = ap page_with (changed_taken held d)
+body_taken held (body.Refusal reason) = refl
+body_taken held body.NoCids = refl
+body_taken held (body.Pushed d) = ap page_with (changed_taken held d)
+body_taken held body.Closed = refl
+body_taken held (body.Faulted reason) = refl
 
-pub frame_taken : (bytes : List ℕ) (f : Frame) → SpellsFrame bytes (frame_data f) → SendsNode f.body → (held : Option Tree) → client_reads held bytes ≡ after_body held f.body
-frame_taken bytes f spells h held = reads_spelled bytes (frame_data f) spells held ∙ body_taken held f.body h
+pub frame_taken : (bytes : List ℕ) (f : Frame) → SpellsFrame bytes (frame_data f) → (held : Option Tree) → client_reads held bytes ≡ after_body held f.body
+frame_taken bytes f spells held = reads_spelled bytes (frame_data f) spells held ∙ body_taken held f.body

@@ -10,6 +10,7 @@ pub mod Applies
 pub mod Shows
 pub mod JsonBack
 pub mod Events
+pub mod Eventless
 pub mod Roots
 pub mod Bytewise
 pub mod Smalls

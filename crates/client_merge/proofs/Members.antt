@@ -21,7 +21,7 @@ use Rattle.diff_tree.specs.Tree.{Tree, node, Trees, Rows, no_rows, Change, write
 use Rattle.diff_tree.specs.Client.{and_then}
 use Rattle.diff_tree.specs.Spelling.{texts_json}
 use Rattle.diff_tree.specs.Grammar.{is_place}
-use Rattle.diff_tree.specs.Parts.{part_data, place_data, part_step, place_step, body_step, row_step, body_members, places_json, seen, with_statics, row_data, node_data, list_data, statics_of, body_of}
+use Rattle.diff_tree.specs.Parts.{part_data, place_data, part_step, place_step, body_step, row_step, body_members, places_json, seen, row_data, node_data, statics_of, body_of}
 use Rattle.diff_tree.proofs.Written.{part_data-out}
 use Rattle.diff_tree.specs.declared.part.Part.{Part}
 use Rattle.diff_tree.specs.declared.part.PartBody.{PartBody}
@@ -110,7 +110,7 @@ abbrev pub chain : List (KeyValue PlaceValue) → Members
 chain [] = no_members
 chain (e ∷ es) = member e.key (place_data e.value) (chain es)
 
-places_chain : (es : List (KeyValue PlaceValue)) → ascend (keys es) ≡ true → places_json (seen es) ≡ chain es
+pub places_chain : (es : List (KeyValue PlaceValue)) → ascend (keys es) ≡ true → places_json (seen es) ≡ chain es
 places_chain [] h = refl
 places_chain (e ∷ []) h = refl
 places_chain (e ∷ f ∷ es) h =
@@ -155,13 +155,16 @@ changes_chain (e ∷ es) cs = by (bytes_eq e.key (codes "s")) (changes_chain es)
 
 -- ---- `s`
 
-pub is_s : (l : List ℕ) (o : Ordering) → order s_key l ≡ o → bytes_eq l s_key ≡ is_eq o
-is_s l o is = sym (is_eq-slice_cmp l s_key) ∙ ap is_eq (nat_list_cmp_total.antisymm l s_key ∙ ap ordering_reverse is) ∙ by o
+pub key_is : (k l : List ℕ) (o : Ordering) → order k l ≡ o → bytes_eq l k ≡ is_eq o
+key_is k l o is = sym (is_eq-slice_cmp l k) ∙ ap is_eq (nat_list_cmp_total.antisymm l k ∙ ap ordering_reverse is) ∙ by o
   where
     by : (o : Ordering) → is_eq (ordering_reverse o) ≡ is_eq o
     by Less = refl
     by Equal = refl
     by Greater = refl
+
+pub is_s : (l : List ℕ) (o : Ordering) → order s_key l ≡ o → bytes_eq l s_key ≡ is_eq o
+is_s l o is = key_is s_key l o is
 
 pub part_is : (p : Part) → part_data p ≡ sent_node (statics_of p) (body_of p)
 part_is p = part_data-out p

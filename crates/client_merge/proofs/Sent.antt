@@ -2,10 +2,8 @@
 use Rattle.std.proofs.Common.{◌≡◌, ℕ, List, length, map, Option, Some, None, option_map, refl, sym, ap, ◌∙◌, subst, codes}
 use Rattle.serde_json.specs.Data.{Data, array, object, Items, Members, no_members, put}
 use Rattle.text_core.specs.declared.by_key.KeyValue.{KeyValue}
-use Rattle.text_core.specs.Keyed.{on_value}
-use Rattle.diff_tree.specs.Tree.{Tree, list, Rows, Change, write, rows}
+use Rattle.diff_tree.specs.Tree.{list, Rows, Change, write}
 use Rattle.diff_tree.specs.Client.{and_then}
-use Rattle.diff_tree.specs.Spelling.{texts_json}
 use Rattle.diff_tree.specs.Parts.{part_data, place_data, row_data, rows_items, part_step, place_step, body_step, row_step, body_members, with_statics, with_stream, node_data, list_data, statics_of, body_of}
 use Rattle.diff_tree.specs.declared.stream.StreamPart.{StreamPart}
 use Rattle.diff_tree.specs.declared.part.Part.{Part}

@@ -1,6 +1,6 @@
 -- Held trees and planned changes, seen.
 use Rattle.std.proofs.Common.{◌≡◌, ℕ, zero, suc, ◌+◌, ◌<◌, List, [], ◌∷◌, ◌++◌, length, map, get_or, slice_set, Option, Some, option_map, refl, sym, ap, ◌∙◌, subst, arith}
-use Rattle.diff_tree.specs.Tree.{Tree, text, node, list, Trees, no_trees, tree, count, Rows, row, opened, opened_all, opened_rows, Change, write, inner, rows}
+use Rattle.diff_tree.specs.Tree.{Tree, text, node, list, Trees, no_trees, tree, count, row, opened, opened_all, opened_rows, Change, write, inner, rows}
 use Rattle.client_merge.specs.Held.{trees_from, rows_from, held_step, row_step, held_tree, held_row, held_trees, held_rows, blank_trees}
 use Rattle.client_merge.specs.Planned.{Placed, change_step, placed_step, planned, placed, planned_all}
 use Rattle.client_merge.specs.declared.held.HeldNode.{HeldNode}

@@ -11,7 +11,7 @@ use Rattle.wire_v2.specs.declared.frame.FrameBody.{FrameBody}
 use Rattle.wire_v2.specs.declared.frame.FrameBody.TheVariants as body
 use Rattle.client_merge.specs.Reading.{tree_of}
 use Rattle.client_merge.specs.Page.{merged_page}
-use Rattle.client_merge.specs.Frames.{page_with}
+use Rattle.client_merge.specs.Frames.{page_with, without_events}
 
 -- after an error reply with this reason
 abbrev pub after_refusal : Option Tree → List ℕ → Option (Option Tree)
@@ -21,9 +21,9 @@ abbrev pub alone : List ComponentPart → Data → Option Data
 alone [] d = Some d
 alone (c ∷ cs) d = None
 
--- the root that is sent, where no component is
+-- the root that is sent, without what stands under `e`, where no component is
 abbrev pub root_sent : Diff → Option Data
-root_sent d = alone (components_of d) (part_data (root_of d))
+root_sent d = alone (components_of d) (without_events (part_data (root_of d)))
 
 -- a page or none; none of both where the body is bad for what is held
 abbrev pub after_body : Option Tree → FrameBody → Option (Option Tree)

@@ -1,19 +1,20 @@
 //! A client takes the bytes of frames, and shows its page.
-ghost use Rattle.std.specs.Prelude.{◌≡◌, Some, None, Option, OnOk, OnErr, IfOk};
+ghost use Rattle.std.specs.Prelude.{◌≡◌, Some, None, Option, OnOk, OnErr, IfOk, codes};
 ghost use Rattle.std.specs.Result.{IsErrOf};
+ghost use Rattle.text_core.specs.Keyed.{Ascending, without_key};
 ghost use Rattle.text_core.specs.Outside.{Writes, Rises};
 ghost use Rattle.diff_tree.specs.Tree.{Tree};
 ghost use Rattle.client_merge.specs.declared.fault.MergeFault.TheVariants as MergeFault;
 ghost use Rattle.diff_tree.specs.Parts.{part_data};
 ghost use Rattle.client_merge.specs.Bodies.{after_body, after_refusal, root_sent};
 ghost use Rattle.client_merge.specs.Reading.{tree_of};
-ghost use Rattle.client_merge.specs.Frames.{client_reads, page_with};
+ghost use Rattle.client_merge.specs.Frames.{client_reads, page_with, without_events};
 ghost use Rattle.diff_tree.specs.Client.{and_then};
 
 use crate::{Client, MergeFault};
-use diff_tree::{Diff, Part};
+use diff_tree::{Diff, Part, PartBody, PlaceValue};
 use std::alloc::Global;
-use text_core::{Bytes, OutOfMemory, Sink, Text, Wrote};
+use text_core::{ByKey, Bytes, OutOfMemory, Sink, Text, Wrote};
 use wire_v2::{Frame, FrameBody, MessageFault, read_frame};
 
 // The frame that bytes spell, if they spell one.
@@ -47,10 +48,31 @@ fn root_of(diff: Diff) -> Result<Part, MergeFault>
 {
     let (root, components, events) = diff.into_parts();
     if components.is_empty() {
-        Ok(root)
+        Ok(without_events(root))
     } else {
         Err(MergeFault::BadFrame)
     }
+}
+
+// A root without what stands under `e`, which is where a diff has its events.
+fn without_events(root: Part) -> Part
+    ensures { part_data result ≡ without_events (part_data root) }
+{
+    let (statics, body) = root.into_parts();
+    match body {
+        PartBody::Places(places) => Part::new(statics, without_place(places)),
+        PartBody::List { rows, stream } => Part::list(statics, rows, stream),
+    }
+}
+
+fn without_place(mut places: ByKey<PlaceValue>) -> ByKey<PlaceValue>
+    ensures value { result ≡ without_key (codes "e") places }
+    ensures ascending { Ascending places }
+{
+    // The call says that the keys ascend.
+    let _ = places.as_slice();
+    let _place = places.remove("e");
+    places
 }
 
 impl Client {

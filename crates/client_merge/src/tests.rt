@@ -140,6 +140,19 @@ fn a_client_takes_lists(rt: HostRuntime) -> Result<(), Fail> {
         ),
         ("{\"d\":[[\"p\"]]}", Some(MergeFault::BadFrame), "(<o>)"),
         ("{\"0\":{\"0\":\"q\"}}", None, "(<q>)"),
+        // A list in the stead of a node, and of the root.
+        (
+            "{\"0\":{\"d\":[[\"r\"]],\"s\":[\"<\",\">\"]}}",
+            None,
+            "(<r>)",
+        ),
+        (
+            "{\"d\":[[\"s\"],[\"t\"]],\"s\":[\"<\",\">\"]}",
+            None,
+            "<s><t>",
+        ),
+        ("{\"0\":\"u\"}", Some(MergeFault::BadFrame), "<s><t>"),
+        ("{\"d\":[[\"v\"]]}", None, "<v>"),
     ] {
         let result = client.take_diff(alloc, part(alloc, text)?);
         assert_eq!(rt; result.err(), fault, "at {text}");
@@ -273,6 +286,45 @@ fn a_client_takes_bytes(rt: HostRuntime) -> Result<(), Fail> {
             page,
             "at {frame}"
         );
+    }
+    Ok(())
+}
+
+#[test]
+fn bad_rows_leave_the_page(rt: HostRuntime) -> Result<(), Fail> {
+    let alloc = rt.alloc();
+    let mut client = Client::empty();
+    client.take_whole(alloc, part(alloc, LIST)?)?;
+    for diff in [
+        // Statics alone, and around rows of another length.
+        "{\"0\":{\"s\":[\"<\",\">\"]}}",
+        "{\"0\":{\"d\":[[\"x\",\"y\"]],\"s\":[\"<\",\">\"]}}",
+        "{\"0\":{\"d\":[[]],\"s\":[\"<\",\">\"]}}",
+        "{\"0\":{\"d\":[[\"x\"]],\"s\":[]}}",
+        // Rows of two lengths, and of another than that of the statics that are held.
+        "{\"0\":{\"d\":[[\"x\"],[\"y\",\"z\"]]}}",
+        "{\"0\":{\"d\":[[\"x\",\"y\"],[\"z\",\"w\"]]}}",
+        // No rows.
+        "{\"0\":{\"d\":[]}}",
+        "{\"0\":{\"d\":[],\"s\":[\"<\",\">\"]}}",
+        // Rows beside a place.
+        "{\"0\":{\"0\":\"x\",\"d\":[[\"y\"]]}}",
+        // What is no list of rows, and what is no row.
+        "{\"0\":{\"d\":\"x\"}}",
+        "{\"0\":{\"d\":[\"x\"]}}",
+        "{\"0\":{\"d\":[{\"0\":\"x\"}]}}",
+        "{\"0\":[[\"x\"]]}",
+        // Rows where a node is held, and where there is no place.
+        "{\"d\":[[\"x\"]]}",
+        "{\"1\":{\"d\":[[\"x\"]]}}",
+    ] {
+        let frame = format!(in alloc; "[\"1\",null,\"lv:a\",\"diff\",{diff}]")?;
+        assert_eq!(rt;
+            after(alloc, &mut client, frame.as_str())?.as_str(),
+            "bad frame",
+            "at {diff}"
+        );
+        assert_eq!(rt; shown(alloc, &client)?.as_str(), "(<a><b>)", "at {diff}");
     }
     Ok(())
 }

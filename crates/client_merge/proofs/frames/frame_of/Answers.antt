@@ -1,6 +1,5 @@
 use Rattle.client_merge.proofs.Bytewise.{frame_taken}
 use Rattle.client_merge.proofs.frames.frame_of.Goals as goal
 
--- open: that the root of a diff that was read is a node is not promised below
 pub returns-in-Ok-clause-ok : goal.returns-in-Ok-clause-ok
-returns-in-Ok-clause-ok c = frame_taken c.args.frame.now c.in-Ok.frame c.in-Ok.ensures.ok ?
+returns-in-Ok-clause-ok c = frame_taken c.args.frame.now c.in-Ok.frame c.in-Ok.ensures.ok
