@@ -136,17 +136,22 @@ fn manifests(rt: HostRuntime) -> Result<(), Fail> {
 fn templates(rt: HostRuntime) -> Result<(), Fail> {
     let alloc = rt.alloc();
     for (template, fault) in [
-        ("<b>{@n}</b><br>", None),
         ("<b class={@n} title='x' {@m}>y</b>", None),
-        ("<b class={@streams.m}>y</b>", Some(LoadFault::Refused)),
-        ("<.card />", Some(LoadFault::Refused)),
-        ("<b :if={@n}>y</b>", None),
+        ("<%= if @n do %>x<% end %>", None),
         ("<%= if @n do %>x<% else %>{@m}<% end %>", None),
         ("<%= case @n do %><% 1 -> %>x<% m -> %>{m}<% end %>", None),
-        ("<i :for={x <- @l}>{x}</i>", None),
         ("<%= for x <- @l do %><b :if={x}>{@n}</b><% end %>", None),
+        ("<i :for={x <- @l}>{x}</i>", None),
         (
             "<%= if @n do %><.card /><% end %>",
+            Some(LoadFault::Refused),
+        ),
+        (
+            "<i :for={x <- @l}><.live_component module={Card} id={x} /></i>",
+            Some(LoadFault::Refused),
+        ),
+        (
+            "<b :if={@n}>{render_slot(@s)}</b>",
             Some(LoadFault::Refused),
         ),
         ("<i :for={x <- @l}>{@streams}</i>", Some(LoadFault::Refused)),

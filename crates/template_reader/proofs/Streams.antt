@@ -15,7 +15,7 @@ use Rattle.ast_core.specs.Syntax.{Name, at, var}
 use Rattle.template_reader.specs.Reading.{reads_streams}
 
 -- an assign is mentioned
-says : List ℕ → List Name → Bool
+abbrev says : List ℕ → List Name → Bool
 says k [] = false
 says k (at a ∷ ns) = if bytes_eq k a then true else says k ns
 says k (var v ∷ ns) = says k ns

@@ -100,6 +100,10 @@ fn bodies(rt: HostRuntime) -> Result<(), Fail> {
             "<%= case @a do %><% 1 -> %>x<% y -> %><b>{y}</b><% end %>",
             "|: ~ x ~ <b>|</b>",
         ),
+        (
+            "<%= case @a do %><% {x, _} -> %><%= if x do %>y<% else %><% end %><% end %>",
+            "|: ~ |? ~ y",
+        ),
         ("<%= for x <- @l do %><i>{x}</i><% end %>", "|+ ~ <i>|</i>"),
         ("<b :if={@a} />", "|? ~ <b></b>"),
         ("<i :for={x <- @l} title={x}>z</i>", "|+ ~ <i|=>z</i>"),
@@ -125,6 +129,10 @@ fn not_yet(rt: HostRuntime) -> Result<(), Fail> {
     for text in [
         "<%= if @a do %><.card /><% end %>",
         "<%= if @a do %>b<% else %>{render_slot(@s)}<% end %>",
+        "<%= case @a do %><% 1 -> %><.card>x</.card><% end %>",
+        "<i :for={x <- @l}><.live_component module={Card} id={x} /></i>",
+        "<.live_component module={Card} id=\"a\" />",
+        "{render_slot(@s)}",
         "<li :for={{i, x} <- @streams.m} id={i}>{x}</li>",
         "<%= for x <- @streams.m do %>{x}<% end %>",
         "<%= for x <- @l do %>{@streams}<% end %>",
