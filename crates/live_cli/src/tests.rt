@@ -87,7 +87,7 @@ fn pages(rt: HostRuntime) -> Result<(), Fail> {
         ("{@n}", "# nothing\n\n", Status::Done, ""),
         ("<p>{@m +}</p>", HELLO, Status::Refused, "refused: NotYet\n"),
         (
-            "<b>{@n}</b>",
+            "<.card>{@n}</.card>",
             "browser A\njump A\n",
             Status::Refused,
             "refused: NotYet\n",

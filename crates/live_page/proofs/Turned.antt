@@ -14,7 +14,7 @@ use Rattle.assigns_track.specs.Track.{present_of, settled_of}
 use Rattle.diff_render.specs.Renders.{Meets, Recalls, Sends, Renders}
 use Rattle.diff_render.specs.Tracked.{HasSettled, present}
 use Rattle.diff_render.specs.declared.print.Print.{Print}
-use Rattle.diff_render.proofs.Changed.{lookup_seen}
+use Rattle.expr_eval.proofs.Views.{lookup_seen}
 use Rattle.diff_render.specs.declared.fault.RenderFault.{RenderFault}
 use Rattle.diff_render.specs.declared.fault.RenderFault.TheVariants as render
 use Rattle.effects_apply.specs.declared.rest.Rest.{Rest as Beside}
@@ -33,7 +33,7 @@ use Rattle.live_page.proofs.Rendered.{turn_is, outcome_of, met_of, met_is}
 
 -- settled assigns have the values that they have now
 pub settles : (before after : Tracked) → after.present ≡ before.present → ((n : List ℕ) → settled_of after n ≡ present_of before n) → HasSettled after (present after)
-settles before after same settled n = lookup_seen n after.present ∙ ap (λ es. option_map view (kept n es)) same ∙ sym (settled n)
+settles before after same settled n = sym (lookup_seen n after.present) ∙ ap (λ es. option_map view (kept n es)) same ∙ sym (settled n)
 
 module _ {V : Type 0} (meaning : V → HandlerMeaning) (app : App V) where
   -- a rendering that is met leaves this page

@@ -13,7 +13,8 @@ use Rattle.wire_v2.specs.Message.{MessageHead}
 use Rattle.diff_tree.specs.Parts.{pushed_of}
 use Rattle.diff_tree.specs.declared.push.Push.{Push}
 use Rattle.machine_api.specs.declared.machine.Action as asked
-use Rattle.diff_render.specs.Renders.{present, whole_json}
+use Rattle.diff_render.specs.Renders.{whole_json}
+use Rattle.diff_render.specs.Tracked.{present}
 use Rattle.effects_apply.specs.declared.rest.Rest.{Rest as Beside}
 use Rattle.effects_apply.specs.Applied.{rest_view, CountsFree, action_view}
 use Rattle.live_page.specs.declared.app.App.{App}

@@ -10,7 +10,8 @@ use Rattle.slot_compile.specs.Template.{Source}
 use Rattle.diff_tree.specs.declared.part.Part.{Part}
 use Rattle.diff_tree.specs.Client.{PageDiff}
 use Rattle.diff_tree.specs.Frame.{Frame, faulted}
-use Rattle.diff_render.specs.Renders.{present, lean_json}
+use Rattle.diff_render.specs.Renders.{lean_json}
+use Rattle.diff_render.specs.Tracked.{present}
 use Rattle.machine_api.specs.declared.machine.Action as asked
 use Rattle.diff_tree.specs.declared.push.Push.{Push}
 use Rattle.wire_v2.specs.Message.{MessageHead}

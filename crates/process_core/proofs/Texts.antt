@@ -1,7 +1,8 @@
 -- The text of the page that is up.
 use Rattle.std.proofs.Common.{◌≡◌, ℕ, List, Option, Some, None, Ok, refl, ap}
 use Rattle.doc_model.specs.Process.{Page, scope_of_view, page_text}
-use Rattle.diff_render.specs.Renders.{present, IsRendering}
+use Rattle.diff_render.specs.Renders.{IsRendering}
+use Rattle.diff_render.specs.Tracked.{present}
 use Rattle.view_api.specs.Meaning.{HandlerMeaning}
 use Rattle.live_page.specs.declared.app.App.{App}
 use Rattle.live_page.specs.declared.page.LivePage.{LivePage}

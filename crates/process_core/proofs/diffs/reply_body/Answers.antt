@@ -12,7 +12,8 @@ returns-then-is_nothing c d plain is =
 pub returns : goal.returns
 returns c d plain is = (
   d,
-  c.new-diff.ensures.data ∙ is ∙ page_is d plain,
+  map pushed_of c.args.events,
+  c.new-1.ensures.data ∙ page_is d c.args.part c.args.events plain is,
   ap (λ b. if b then model.empty else model.changed d (map pushed_of c.args.events))
       (sym (nothing_is d c.args.part c.args.events plain is) ∙ sym c.is_nothing.ensures ∙ c.if-is_nothing.false),
 )
