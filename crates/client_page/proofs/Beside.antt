@@ -78,11 +78,13 @@ beside_other k (e ∷ es) ms h = get_member-put_other k e_key (array (events_jso
 
 is_diff_beside : (es : List Pushed) (ms : Members) → Absent e_key ms → Absent c_key ms → is_value (object ms) ≡ true → is_plain (object (with_events es ms)) ≡ true → is_diff (object (with_events es ms)) ≡ true
 is_diff_beside es ms e c value plain =
-    both_to (is_plain (object (with_events es ms))) _ plain
-    (both_to (events_fit (get_member e_key (with_events es ms))) _ (events_stand es ms e (both_of (ascend (names (with_events es ms))) (members_are_plain (with_events es ms)) plain).1)
-    (both_to (components_fit (get_member c_key (with_events es ms))) (is_node (root_in (object (with_events es ms))))
-    (ap components_fit (beside_other c_key es ms refl ∙ none_found c_key ms c))
-    (ap (λ l. is_node (object (without c_key l))) (events_out es ms e) ∙ ap (λ l. is_node (object l)) (plain_same c_key ms c) ∙ value)))
+    let w : Data = object (with_events es ms) in
+    let members : members_are_plain (with_events es ms) ≡ true = (both_of (ascend (names (with_events es ms))) (members_are_plain (with_events es ms)) plain).1 in
+    let stand : (is_plain w && events_fit (get_member e_key (with_events es ms))) ≡ true = both_to (is_plain w) (events_fit (get_member e_key (with_events es ms))) plain (events_stand es ms e members) in
+    let none : components_fit (get_member c_key (with_events es ms)) ≡ true = ap components_fit (beside_other c_key es ms refl ∙ none_found c_key ms c) in
+    both_to (is_plain w && events_fit (get_member e_key (with_events es ms)) && components_fit (get_member c_key (with_events es ms))) (is_node (root_in w))
+    (both_to (is_plain w && events_fit (get_member e_key (with_events es ms))) (components_fit (get_member c_key (with_events es ms))) stand none)
+    (ap (λ l. is_node (object (without c_key l))) (events_out es ms e) ∙ ap (λ l. is_node (object l)) (plain_same c_key ms c) ∙ value)
 
 pub changes_diff : (es : List Pushed) (cs : Changes) → reach cs < 2 ^ 64 → ChangesFit cs → is_plain (object (with_events es (changes_json 0 cs))) ≡ true → is_diff (object (with_events es (changes_json 0 cs))) ≡ true
 changes_diff es cs few h plain =

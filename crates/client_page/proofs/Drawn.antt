@@ -19,7 +19,7 @@ use Rattle.doc_model.proofs.Results.{On, on_made, on_bind, on_weaker, on_all}
 use Rattle.doc_model.proofs.Journals.{page_of, scope_before, walk_before}
 use Rattle.client_page.specs.Shown.{IsPlainWorld}
 use Rattle.client_page.proofs.Few.{count_few}
-use Rattle.client_page.proofs.Met.{on_then, Rendered, renders_plainly}
+use Rattle.client_page.proofs.Places.{on_then, Rendered, renders_plainly}
 use Rattle.client_page.proofs.Beside.{AreWhole}
 
 -- ---- what is pushed has whole numbers alone

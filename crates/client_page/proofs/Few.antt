@@ -1,5 +1,6 @@
 -- Bodies of fewer than 2^64 places.
-use Rattle.std.proofs.Common.{◌+◌, ◌<◌, ◌^◌, List, [], ◌∷◌, ◌++◌, length, map, sum, arith}
+use Rattle.std.proofs.Common.{ℕ, ◌+◌, ◌<◌, ◌^◌, List, [], ◌∷◌, ◌++◌, length, map, arith}
+use Rattle.std.specs.List.{fold}
 use Rattle.ast_core.specs.Syntax.{Attributes, no_attributes, written, valued, spread_of, module_of, Node, text_node, element, at_place, Place, Nodes, no_nodes, node}
 use Rattle.ast_core.specs.Places.{places_in, places_of, places_of_attributes}
 use Rattle.slot_compile.specs.Numbering.{bodies_in, bodies_of, bodies_at, all_bodies, place_count}
@@ -16,15 +17,17 @@ pub few_right : (xs ys : List Nodes) → AllFew (xs ++ ys) → AllFew ys
 few_right [] ys h = h
 few_right (x ∷ xs) ys h = few_right xs ys h.1
 
-sum_few : (xs : List Nodes) → sum (map (λ ns. length (places_in ns)) xs) < 2 ^ 64 → AllFew xs
-sum_few [] h = tt
-sum_few (x ∷ xs) h =
-    let all : length (places_in x) + sum (map (λ ns. length (places_in ns)) xs) < 2 ^ 64 = h in
-    (omega (arith, all), sum_few xs (omega (arith, all)))
+-- each is below what all are together
+sum_few : (before : ℕ) (xs : List Nodes) → fold ◌+◌ before (map (λ ns. length (places_in ns)) xs) < 2 ^ 64 → (before < 2 ^ 64) × AllFew xs
+sum_few before [] h = (h, tt)
+sum_few before (x ∷ xs) h =
+    let rest = sum_few (before + length (places_in x)) xs h in
+    let below : before + length (places_in x) < 2 ^ 64 = rest.0 in
+    (omega (arith, below), (omega (arith, below), rest.1))
 
 -- all bodies of a template that has few places altogether
 pub count_few : (ns : Nodes) → place_count ns < 2 ^ 64 → AllFew (all_bodies ns)
-count_few ns h = sum_few (all_bodies ns) h
+count_few ns h = (sum_few 0 (all_bodies ns) h).1
 
 -- the bodies inside places
 abbrev pub PlacesFew : List Place → Type 0

@@ -14,10 +14,11 @@ use Rattle.doc_model.specs.Whole.{whole_places}
 use Rattle.doc_model.specs.Lean.{lean_places}
 use Rattle.doc_model.specs.Components.{parts, part_at, option_tree, part_numbers, whole_tree, lean_parts, lean_diff}
 use Rattle.doc_model.proofs.StepKinds.{Carries}
+use Rattle.client_merge.specs.Laws.{reach}
 use Rattle.client_merge.specs.Alike.{frame_bytes}
 use Rattle.client_page.specs.Shown.{IsReadable}
-use Rattle.client_page.proofs.Met.{how_many}
-use Rattle.client_page.proofs.Trees.{IsFit, FewRight, both_to, no_parts, counted, wholes_fit, diff_fits}
+use Rattle.client_page.proofs.Places.{how_many}
+use Rattle.client_page.proofs.Trees.{IsFit, ChangesFit, FewRight, both_to, no_parts, counted, wholes_fit, diff_fits}
 use Rattle.client_page.proofs.Fit.{node_members}
 use Rattle.client_page.proofs.Beside.{AreWhole, changes_diff, changes_whole_numbers, node_tree, node_whole_numbers}
 use Rattle.client_page.proofs.ReadPlain.{read_plain}
@@ -53,6 +54,7 @@ whole_fits st is es h around = subst (λ d. TreeFits d es) (sym sent) ((λ whole
 diff_sent : (is js : Items) (es : List Pushed) → FewRight is → FewRight js → DiffFits (page_diff_json (lean_diff is js) es) es
 diff_sent is js es h g = subst (λ d. DiffFits d es) (sym sent) ((λ whole. changes_whole_numbers es (lean_places is js) fit.1 whole), (λ plain. changes_diff es (lean_places is js) fit.0 fit.1 plain))
   where
+    fit : (reach (lean_places is js) < 2 ^ 64) × ChangesFit (lean_places is js)
     fit = diff_fits is js h g
 
     sent : page_diff_json (lean_diff is js) es ≡ object (with_events es (changes_json 0 (lean_places is js)))

@@ -1,5 +1,5 @@
 pub mod Few
-pub mod Met
+pub mod Places
 pub mod Trees
 pub mod Fit
 pub mod Beside

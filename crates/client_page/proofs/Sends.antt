@@ -16,7 +16,7 @@ use Rattle.doc_model.proofs.Journals.{Draws, walk_before, drawn}
 use Rattle.client_merge.specs.Alike.{IsSmallBody, IsSmallDiff}
 use Rattle.client_page.specs.Shown.{IsPlainWorld}
 use Rattle.client_page.proofs.Few.{count_few}
-use Rattle.client_page.proofs.Met.{Meets, around, few_met, Rendered}
+use Rattle.client_page.proofs.Places.{Meets, around, few_met, Rendered}
 use Rattle.client_page.proofs.Drawn.{drawn_plainly}
 use Rattle.client_page.proofs.Trees.{FewRight, page_small, diff_small}
 use Rattle.client_page.proofs.Fitting.{BodyFits, whole_fits, told_fits}

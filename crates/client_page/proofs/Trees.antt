@@ -10,7 +10,7 @@ use Rattle.doc_model.specs.Components.{parts, parts_of, parts_of_rows, part_at, 
 use Rattle.client_merge.specs.Laws.{IsSmall, AreSmall, RowsAreSmall, ChangeIsSmall, ChangesAreSmall, reach}
 use Rattle.client_merge.specs.Alike.{IsSmallPage, IsSmallDiff}
 use Rattle.client_merge.proofs.Changes.{Holds}
-use Rattle.client_page.proofs.Met.{how_many, AreRight, IsRight, RowsAreRight}
+use Rattle.client_page.proofs.Places.{how_many, AreRight, IsRight, RowsAreRight}
 
 -- ---- trees and changes that fit
 

@@ -1,4 +1,4 @@
-use Rattle.std.proofs.Common.{◌≡◌, ◌<◌, ◌^◌, refl, subst}
+use Rattle.std.proofs.Common.{◌<◌, ◌^◌, refl, subst}
 use Rattle.slot_compile.specs.Template.{syntax_of}
 use Rattle.slot_compile.specs.Numbering.{place_count}
 use Rattle.live_page.specs.World.{world_of}
