@@ -57,7 +57,8 @@ fn reply_body(alloc: Global, part: Part, events: Pushes) -> FrameBody
     if is_nothing(&part, &events) {
         return FrameBody::Empty;
     }
-    FrameBody::Changed(Diff::new(part, Seq::new(alloc), events))
+    let diff = Diff::new(part, Seq::new(alloc), events);
+    FrameBody::Changed(diff)
 }
 
 // The frame that pushes a diff, where there is one.
