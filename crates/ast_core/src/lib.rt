@@ -8,8 +8,6 @@ mod node;
 mod operators;
 mod pattern;
 mod reading;
-#[cfg(test)]
-mod tests;
 mod walk;
 mod walk_expr;
 mod walk_node;
@@ -23,5 +21,5 @@ pub use node::{
 };
 pub use operators::{BinaryOp, Function, UnaryOp};
 pub use pattern::{Pattern, PatternPair, PatternPairs, Patterns};
-pub use reading::{assigns_read, reads};
+pub use reading::{expr_reads, place_reads, reads};
 pub use walk::Reads;

@@ -1,14 +1,14 @@
-//! What a node reads from outside itself.
+//! What expressions, nodes and places read from outside themselves.
 ghost use Rattle.std.specs.Prelude.{◌≡◌, IfOk};
 ghost use Rattle.ast_core.specs.ExprView.{expr_view};
-ghost use Rattle.ast_core.specs.Free.{free_names, free_node};
-ghost use Rattle.ast_core.specs.NodeView.{node_view};
+ghost use Rattle.ast_core.specs.Free.{free_names, free_node, free_place};
+ghost use Rattle.ast_core.specs.NodeView.{node_view, place_view};
 ghost use Rattle.ast_core.specs.Reads.{assigns_in, variables_in};
 
 use crate::walk::{Reads, Walk};
-use crate::{Expr, Node};
+use crate::{Expr, Node, Place};
 use std::alloc::Global;
-use text_core::{Names, OutOfMemory};
+use text_core::OutOfMemory;
 
 /// The assigns and the variables that a node mentions and does not bind itself, each in byte order, none twice. The
 /// names that a pattern binds are not free in what it scopes over, and a place of a stream does not read an assign
@@ -19,24 +19,25 @@ pub fn reads(alloc: Global, node: &Node) -> Result<Reads, OutOfMemory>
 {
     let mut walk = Walk::new(alloc);
     walk.read_node(alloc, node)?;
-    let Walk {
-        bound: _bound,
-        assigns,
-        variables,
-    } = walk;
-    Ok(Reads { assigns, variables })
+    Ok(walk.ended())
 }
 
-/// The assigns that an expression mentions, in byte order, none twice.
-pub fn assigns_read(alloc: Global, expr: &Expr) -> Result<Names, OutOfMemory>
-    ensures { IfOk result (λ names. names ≡ assigns_in (free_names (expr_view expr.now))) }
+/// The same of a place.
+pub fn place_reads(alloc: Global, place: &Place) -> Result<Reads, OutOfMemory>
+    ensures assigns { IfOk result (λ r. r.assigns ≡ assigns_in (free_place (place_view place.now))) }
+    ensures variables { IfOk result (λ r. r.variables ≡ variables_in (free_place (place_view place.now))) }
+{
+    let mut walk = Walk::new(alloc);
+    walk.read_place(alloc, place)?;
+    Ok(walk.ended())
+}
+
+/// The assigns and the variables that an expression mentions, each in byte order, none twice.
+pub fn expr_reads(alloc: Global, expr: &Expr) -> Result<Reads, OutOfMemory>
+    ensures assigns { IfOk result (λ r. r.assigns ≡ assigns_in (free_names (expr_view expr.now))) }
+    ensures variables { IfOk result (λ r. r.variables ≡ variables_in (free_names (expr_view expr.now))) }
 {
     let mut walk = Walk::new(alloc);
     walk.read_expr(alloc, expr)?;
-    let Walk {
-        bound: _bound,
-        assigns,
-        variables: _variables,
-    } = walk;
-    Ok(assigns)
+    Ok(walk.ended())
 }

@@ -73,6 +73,19 @@ impl Walk {
         }
     }
 
+    // What it met.
+    pub fn ended(self) -> Reads
+        ensures assigns { result.assigns ≡ self.assigns }
+        ensures variables { result.variables ≡ self.variables }
+    {
+        let Walk {
+            bound: _bound,
+            assigns,
+            variables,
+        } = self;
+        Reads { assigns, variables }
+    }
+
     pub fn read_assign(&mut self, alloc: Global, name: &Text) -> Result<(), OutOfMemory>
         ensures { OnOk result (self.new ≡ meet (at name.now) self.old) }
     {

@@ -73,7 +73,7 @@ impl Walk {
     }
 
     #[cycle(node)]
-    fn read_place(&mut self, alloc: Global, place: &Place) -> Result<(), OutOfMemory>
+    pub fn read_place(&mut self, alloc: Global, place: &Place) -> Result<(), OutOfMemory>
         ensures { OnOk result (self.new ≡ met (place_reads place.now) self.old) }
     {
         match place {

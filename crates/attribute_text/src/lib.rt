@@ -5,8 +5,6 @@ mod attribute;
 mod class_list;
 mod fault;
 mod spread;
-#[cfg(test)]
-mod tests;
 
 pub use attribute::attribute_text;
 pub use fault::AttributeFault;

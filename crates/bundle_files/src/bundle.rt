@@ -1,5 +1,5 @@
 //! What a bundle holds.
-ghost use Rattle.slot_compile.specs.Template.{IsFlat};
+ghost use Rattle.slot_compile.specs.Template.{IsPlain};
 
 use slot_compile::{Compiled, Formula};
 use text_core::{ByKey, Seq, Text};
@@ -27,12 +27,12 @@ pub type Steps = Seq<Step>;
 /// The steps of each event that a view takes, in byte order of the events' names.
 pub type Events = ByKey<Steps>;
 
-/// A bundle: the template of its view, whose places have nothing inside, what the view does when it is mounted, and what
-/// it does at its events.
+/// A bundle: the template of its view, what the view does when it is mounted, and what it does at its events. Everything
+/// in the template is compiled, also what stands inside its conditions, cases and loops.
 #[derive(Debug, Drop)]
 pub struct Bundle {
     pub compiled: Compiled,
     pub mount: Steps,
     pub events: Events,
-    pub ghost flat: { IsFlat compiled },
+    pub ghost plain: { IsPlain compiled },
 }

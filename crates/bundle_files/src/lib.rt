@@ -7,8 +7,6 @@ mod files;
 mod loading;
 mod manifest;
 mod steps;
-#[cfg(test)]
-mod tests;
 
 pub use bundle::{Bundle, Events, Step, Steps};
 pub use fault::LoadFault;

@@ -58,7 +58,7 @@ fn bundle_with(
     name.push_str(".html.heex")?;
     match template_at(alloc, files, name.as_str())? {
         Some(compiled) => {
-            compiled.places_are_flat();
+            compiled.places_are_plain();
             Ok(Some(Bundle {
                 compiled,
                 mount,

@@ -1,13 +1,14 @@
 -- One planned change, applied.
-use Rattle.std.proofs.Common.{◌≡◌, ◌<◌, ◌+◌, ℕ, ◌∷◌, [], ◌∙◌, List, length, get_or, slice_set, sym, ap, subst, refl, arith, true, Option, Some, None, option_map, is_some, map, IfSome}
-use Rattle.diff_tree.specs.Tree.{Tree, node, Trees, Change, inner, Changes, merge_change}
-use Rattle.client_merge.specs.Held.{held_tree, held_trees}
+use Rattle.std.proofs.Common.{◌≡◌, ◌<◌, ◌+◌, ℕ, ◌∷◌, [], ◌∙◌, List, length, get_or, slice_set, sym, ap, subst, refl, arith, true, Option, Some, None, option_map, is_some, map, IfSome, Bool, false, if◌then◌else◌}
+use Rattle.diff_tree.specs.Tree.{Tree, node, list, Trees, Rows, all_fit, Change, inner, rows, Changes, merge_change, opened_rows}
+use Rattle.client_merge.specs.Held.{held_tree, held_trees, held_rows}
 use Rattle.client_merge.specs.Planned.{planned, merged, merged_all, placed}
 use Rattle.client_merge.specs.declared.held.HeldNode.{HeldNode}
+use Rattle.client_merge.specs.declared.held.HeldRow.{HeldRow}
 use Rattle.client_merge.specs.declared.plan.PlaceChange.{PlaceChange, out-PlaceChange}
 use Rattle.client_merge.proofs.Changes.{tree_at, tree_set}
 use Rattle.client_merge.proofs.Gathered.{Step}
-use Rattle.client_merge.proofs.Views.{placed-is, trees_set, set_twice, at_place, held_at}
+use Rattle.client_merge.proofs.Views.{open_rows, placed-is, trees_set, set_twice, at_place, held_at}
 use Rattle.client_merge.proofs.Loops.{Applied, applied_step, applied_on, applied_last}
 
 pub node_merges : (st : List (List ℕ)) (ts : Trees) (o : Option Changes) → merged (node st ts) (option_map inner o) ≡ option_map (node st) (merged_all ts o)
@@ -79,3 +80,11 @@ applied_all ts now all rest a none = if_some (merged_all ts all) (λ us. us ≡ 
 pub some_node : (st : List (List ℕ)) (o : Option Trees) → is_some o ≡ true → is_some (option_map (node st) o) ≡ true
 some_node st None h = h
 some_node st (Some ts) h = h
+
+-- a list with other rows
+pub rows_if : (st : List (List ℕ)) (old : Rows) (rs : List HeldRow) → IfSome (merge_change (list st old) (rows (held_rows rs))) (λ t. t ≡ list st (held_rows rs))
+rows_if st old rs = by (all_fit (length st) (held_rows rs))
+  where
+    by : (b : Bool) → IfSome (if b then Some (list st (opened_rows (held_rows rs))) else None) (λ t. t ≡ list st (held_rows rs))
+    by true = ap (list st) (open_rows rs)
+    by false = tt

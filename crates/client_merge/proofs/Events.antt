@@ -1,78 +1,58 @@
 -- Trees and diffs beside pushed events: without `e` they are what they were.
-use Rattle.std.proofs.Common.{◌≡◌, ℕ, suc, ◌+◌, ◌≤◌, ◌^◌, ◌&&◌, ◌||◌, List, [], ◌∷◌, Bool, true, false, refl, sym, ap, ◌∙◌, arith, codes, true≢false, Ordering, Less, Equal, Greater}
-use Rattle.std.specs.Ordering.{is_lt, match_ordering}
+use Rattle.std.proofs.Common.{◌≡◌, ℕ, suc, ◌+◌, ◌≤◌, ◌^◌, List, [], ◌∷◌, true, false, if◌then◌else◌, refl, sym, ap, ◌∙◌, arith, codes, true≢false, Ordering, Less, Equal, Greater}
+use Rattle.std.specs.Ordering.{is_eq, match_ordering}
 use Rattle.std.specs.Str.{bytes_eq}
 use Rattle.std.specs.Fmt.{decimal}
 use Rattle.std.proofs.lemmas.Map.Lookups.{exact_bytes}
-use Rattle.serde_json.specs.Data.{Data, null, boolean, number, string, array, object, Members, no_members, member, put}
+use Rattle.serde_json.specs.Data.{Data, array, Members, no_members, member, put}
 use Rattle.text_core.proofs.Keyed.{order}
 use Rattle.diff_tree.specs.Tree.{Trees, no_trees, tree, count, Changes, no_changes, skip, change}
-use Rattle.diff_tree.specs.Grammar.{is_diff, are_places, is_place, is_value, statics_fit}
-use Rattle.diff_tree.specs.Spelling.{Pushed, events_json, with_events, members_of, tree_json, trees_json, change_json, changes_json}
-use Rattle.diff_tree.proofs.Order.{apart_back}
-use Rattle.wire_v2.specs.FrameGrammar.{plain_members, without_events}
-use Rattle.wire_v2.proofs.Plain.{keeps_if, apart_greater}
+use Rattle.diff_tree.specs.Spelling.{Pushed, events_json, with_events, tree_json, trees_json, change_json, changes_json}
+use Rattle.diff_tree.specs.Grammar.{is_place, without}
+use Rattle.diff_tree.proofs.Members.{keeps_if, drops_if}
 use Rattle.client_merge.specs.Laws.{reach}
+use Rattle.client_merge.proofs.Members.{key_is}
 use Rattle.client_merge.proofs.JsonBack.{Absent, absent_put, decimal_is_place}
 
 abbrev pub e_key : List ℕ
 e_key = codes "e"
 
-apart : (l : List ℕ) → (order e_key l ≡ Equal → ⊥) → bytes_eq l e_key ≡ false
-apart l h = by (order e_key l) refl
+pub is_e : (l : List ℕ) (o : Ordering) → order e_key l ≡ o → bytes_eq l e_key ≡ is_eq o
+is_e l o is = key_is e_key l o is
+
+apart : (k l : List ℕ) → (order k l ≡ Equal → ⊥) → bytes_eq l k ≡ false
+apart k l h = by (order k l) refl
   where
-    by : (o : Ordering) → order e_key l ≡ o → bytes_eq l e_key ≡ false
-    by Less is = apart_back e_key l (ap is_lt is)
+    by : (o : Ordering) → order k l ≡ o → bytes_eq l k ≡ false
+    by Less is = key_is k l Less is
     by Equal is = absurd (h is)
-    by Greater is = apart_greater l is
+    by Greater is = key_is k l Greater is
 
-plain_same : (ms : Members) → Absent e_key ms → plain_members ms ≡ ms
-plain_same no_members h = refl
-plain_same (member l d ms) h = keeps_if (bytes_eq l e_key) l d ms ms (apart l h.0) (plain_same ms h.1)
+-- where a key is not there nothing goes
+pub plain_same : (k : List ℕ) (ms : Members) → Absent k ms → without k ms ≡ ms
+plain_same k no_members h = refl
+plain_same k (member l d ms) h = keeps_if (bytes_eq l k) k l d ms ms (apart k l h.0) (plain_same k ms h.1)
 
-plain_put : (d : Data) (ms : Members) → Absent e_key ms → plain_members (put e_key d ms) ≡ ms
-plain_put d no_members h = refl
-plain_put d (member l x ms) h = by (order e_key l) refl (plain_put d ms h.1)
+gone_put : (d : Data) (ms : Members) → without e_key (put e_key d ms) ≡ without e_key ms
+gone_put d no_members = refl
+gone_put d (member l x ms) = by (order e_key l) refl (gone_put d ms)
   where
-    by : (o : Ordering) → order e_key l ≡ o → plain_members (put e_key d ms) ≡ ms
-        → plain_members (match_ordering o (member e_key d (member l x ms)) (member l d ms) (member l x (put e_key d ms))) ≡ member l x ms
-    by Less is rest = plain_same (member l x ms) h
-    by Equal is rest = absurd (h.0 is)
-    by Greater is rest = keeps_if (bytes_eq l e_key) l x (put e_key d ms) ms (apart l h.0) rest
+    by : (o : Ordering) → order e_key l ≡ o → without e_key (put e_key d ms) ≡ without e_key ms
+        → without e_key (match_ordering o (member e_key d (member l x ms)) (member l d ms) (member l x (put e_key d ms))) ≡ without e_key (member l x ms)
+    by Less is rest = refl
+    by Equal is rest = drops_if (bytes_eq l e_key) e_key l d ms (is_e l Equal is) ∙ sym (drops_if (bytes_eq l e_key) e_key l x ms (is_e l Equal is))
+    by Greater is rest = ap (λ ns. if bytes_eq l e_key then ns else member l x ns) rest
 
--- events go, and the other members stay
-pub events_out : (es : List Pushed) (ms : Members) → Absent e_key ms → plain_members (with_events es ms) ≡ ms
-events_out [] ms h = plain_same ms h
-events_out (e ∷ es) ms h = plain_put (array (events_json (e ∷ es))) ms h
+-- events go
+pub events_gone : (es : List Pushed) (ms : Members) → without e_key (with_events es ms) ≡ without e_key ms
+events_gone [] ms = refl
+events_gone (e ∷ es) ms = gone_put (array (events_json (e ∷ es))) ms
 
--- ---- no key of a diff is `e`
+-- and the other members stay
+pub events_out : (es : List Pushed) (ms : Members) → Absent e_key ms → without e_key (with_events es ms) ≡ ms
+events_out es ms h = events_gone es ms ∙ plain_same e_key ms h
 
-both_of : (a b : Bool) → (a && b) ≡ true → (a ≡ true) × (b ≡ true)
-both_of true b h = (refl, h)
-both_of false b h = cc
-
-not_e : (k : List ℕ) (d : Data) → (bytes_eq k (codes "s") || (is_place k && is_value d)) ≡ true → order e_key k ≡ Equal → ⊥
-not_e k d h is =
-    let same : e_key ≡ k = exact_bytes e_key k is in
-    let no : false ≡ true = ap (λ l. bytes_eq l (codes "s") || (is_place l && is_value d)) same ∙ h in
-    true≢false (sym no)
-
-places_absent : (ms : Members) → are_places ms ≡ true → Absent e_key ms
-places_absent no_members h = tt
-places_absent (member l d ms) h =
-    let p = both_of (bytes_eq l (codes "s") || (is_place l && is_value d)) (are_places ms) h in
-    (not_e l d p.0, places_absent ms p.1)
-
--- a diff is what is left of it with events
-pub page_back : (x : Data) (es : List Pushed) → is_diff x ≡ true → without_events (object (with_events es (members_of x))) ≡ x
-page_back null es h = cc
-page_back (boolean b) es h = cc
-page_back (number n) es h = cc
-page_back (string s) es h = cc
-page_back (array ds) es h = cc
-page_back (object ms) es h = ap object (events_out es ms (places_absent ms (both_of (statics_fit (object ms)) (are_places ms) h).1))
-
--- ---- nor is one of the JSON of trees and of changes
+-- ---- no key of the JSON of trees and of changes is `e`
 
 decimal_not_e : (n : ℕ) → n + 1 ≤ 2 ^ 64 → order e_key (decimal n) ≡ Equal → ⊥
 decimal_not_e n fits is =

@@ -1,20 +1,21 @@
--- Frames of texts and nodes alone, read as they are taken.
+-- Frames of texts, nodes and lists alone, read as they are taken.
 use Rattle.std.proofs.Common.{◌≡◌, ℕ, ◌<◌, ◌^◌, List, [], ◌∷◌, map, Option, Some, None, is_some, Bool, true, false, ◌&&◌, if◌then◌else◌, refl, sym, ap, ◌∙◌, subst, arith, codes}
 use Rattle.std.specs.Str.{bytes_eq}
-use Rattle.serde_json.specs.Data.{Data, string, array, object, Members, put}
+use Rattle.serde_json.specs.Data.{Data, string, array, object, Members, no_members, put}
 use Rattle.diff_tree.specs.Tree.{Tree, text, number, node, list, stream, held, Change, write, inner, rows, batch, Changes, no_changes, skip, change, merge_change, opened}
 use Rattle.diff_tree.specs.Client.{PageTree, PageDiff, and_then, judged, dropped, opened_tree, merge_components, with_numbers}
 use Rattle.diff_tree.specs.Frame.{Frame, FrameBody, empty, rendered, changed, refusal, no_cids, push, closed, faulted, reference_json, event_of, payload_of, frame_json, held_diff, client_takes, client_takes_all}
-use Rattle.diff_tree.specs.Spelling.{Pushed, with_events, with_components, components_json, members_of, tree_json, trees_json, texts_json, changes_json, page_tree_json, page_diff_json}
+use Rattle.diff_tree.specs.Spelling.{Pushed, with_events, with_components, components_json, members_of, tree_json, trees_json, rows_json, texts_json, changes_json, page_tree_json, page_diff_json}
 use Rattle.wire_v2.specs.Message.{head_of}
-use Rattle.wire_v2.specs.FrameGrammar.{is_whole, is_page, is_body, is_frame, without_events}
+use Rattle.wire_v2.specs.FrameGrammar.{is_whole, is_body, is_frame}
+use Rattle.diff_tree.specs.Grammar.{is_diff}
 use Rattle.client_merge.specs.Laws.{IsSmall, ChangesAreSmall, reach}
 use Rattle.client_merge.specs.Reading.{change_of, tree_of, written}
-use Rattle.client_merge.specs.Frames.{page_with, page_taken, page_changed, after_event, client_reads, client_reads_all}
+use Rattle.client_merge.specs.Frames.{without_events, page_with, page_taken, page_changed, after_event, client_reads, client_reads_all}
 use Rattle.client_merge.specs.Alike.{root_held, IsSmallPage, HoldsSmall, IsSmallDiff, IsSmallBody, frame_bytes, IsSmallFrame, AreSmallFrames, HoldsAlike, EndInChange, EndsInChange, BodyEndsInChange}
 use Rattle.client_merge.proofs.Changes.{Holds}
-use Rattle.client_merge.proofs.JsonBack.{tree_reads, change_reads, trimmed, trimmed_change, trim_merge, shifted}
-use Rattle.client_merge.proofs.Events.{events_out, trees_absent, changes_absent, statics_absent}
+use Rattle.client_merge.proofs.JsonBack.{absent_put, tree_reads, change_reads, trimmed, trimmed_change, trim_merge, shifted}
+use Rattle.client_merge.proofs.Events.{e_key, events_out, trees_absent, changes_absent, statics_absent}
 use Rattle.client_merge.proofs.Bytewise.{reads_spelled}
 use Rattle.client_merge.proofs.Smalls.{opened_small, no_numbers, judged_small, dropped_small, merge_small}
 
@@ -24,7 +25,7 @@ both_of false b h = cc
 
 -- ---- what is sent, without its events
 
--- a tree that is sent is a node: `s` is there
+-- a tree that is sent is a node or a list: `s` is there
 tree_sent : (t : Tree) (es : List Pushed) → IsSmall t → is_whole (object (with_events es (members_of (tree_json t)))) ≡ true
     → tree_of (without_events (object (with_events es (members_of (tree_json t))))) ≡ Some t
 tree_sent (text t) [] h whole = cc
@@ -34,7 +35,12 @@ tree_sent (node st ts) es h whole =
     let ms : Members = put (codes "s") (array (texts_json st)) (trees_json 0 ts) in
     ap (λ m. tree_of (object m)) (events_out es ms (statics_absent (array (texts_json st)) (trees_json 0 ts) (trees_absent 0 ts (omega (arith, h.0)))))
     ∙ ap (λ (o : Option Change). and_then o written) (tree_reads (node st ts) h)
-tree_sent (list st rs) es h whole = absurd h
+tree_sent (list st rs) es h whole =
+    let d : Data = array (rows_json rs) in
+    let s : Data = array (texts_json st) in
+    let ms : Members = put (codes "d") d (put (codes "s") s no_members) in
+    ap (λ m. tree_of (object m)) (events_out es ms (absent_put e_key (codes "d") d (put (codes "s") s no_members) (λ is. cc) (statics_absent s no_members tt)))
+    ∙ ap (λ (o : Option Change). and_then o written) (tree_reads (list st rs) h)
 tree_sent (stream name b st rs) es h whole = absurd h
 tree_sent (held name st hs) es h whole = absurd h
 
@@ -109,7 +115,7 @@ refused_alike kept false h = (refl, h)
 body_alike : (k : ℕ) (kept : Option PageTree) (b : FrameBody) (r : Data) → HoldsSmall kept → IsSmallBody b → is_body (event_of b) r (payload_of b) ≡ true
     → HoldsAlike (client_takes k kept b) (after_event (root_held kept) (event_of b) (payload_of b))
 body_alike k kept empty r h s is = (refl, h)
-body_alike k kept (rendered p es) r h s is = rendered_alike k p es s (both_of (is_whole (page_tree_json p es)) (is_page (page_tree_json p es)) is).0
+body_alike k kept (rendered p es) r h s is = rendered_alike k p es s (both_of (is_whole (page_tree_json p es)) (is_diff (page_tree_json p es)) is).0
 body_alike k kept (changed d es) r h s is = changed_alike k kept d es h s
 body_alike k kept (refusal reason) r h s is = refused_alike kept (bytes_eq reason (codes "join crashed")) h
 body_alike k kept no_cids r h s is = (refl, h)

@@ -8,19 +8,19 @@ use Rattle.std.specs.Fmt.{decimal}
 use Rattle.std.proofs.lemmas.Map.Lookups.{exact_bytes}
 use Rattle.std.proofs.lemmas.Fmt.{digits_value-decimal, digits_decimal, decimal_digit, first_decimal, decimal_injective}
 use Rattle.std.proofs.lemmas.Bool.Decides.{eqb_tells}
-use Rattle.serde_json.specs.Data.{Data, Members, no_members, member, put}
+use Rattle.serde_json.specs.Data.{Data, array, Members, no_members, member, put}
 use Rattle.serde_json.specs.Find.{get_member}
 use Rattle.serde_json.proofs.Views.{get_member-put_other}
 use Rattle.text_core.proofs.Keyed.{order}
 use Rattle.text_core.proofs.Decimals.{own}
-use Rattle.diff_tree.specs.Tree.{Tree, text, number, node, list, stream, held, Trees, no_trees, tree, count, Change, write, inner, rows, batch, Changes, no_changes, skip, change, merge_change, merge_changes, option_both}
+use Rattle.diff_tree.specs.Tree.{Tree, text, number, node, list, stream, held, Trees, no_trees, tree, count, Rows, no_rows, row, all_fit, Change, write, inner, rows, batch, Changes, no_changes, skip, change, merge_change, merge_changes, option_both}
 use Rattle.diff_tree.specs.Client.{and_then}
 use Rattle.diff_tree.specs.Grammar.{is_place}
-use Rattle.diff_tree.specs.Spelling.{tree_json, trees_json, change_json, changes_json}
-use Rattle.client_merge.specs.Reading.{number_of, is_free, put_change, with_change, trees_of, node_change, change_of, changes_in}
-use Rattle.client_merge.specs.Laws.{IsSmall, AreSmall, ChangeIsSmall, ChangesAreSmall, reach}
+use Rattle.diff_tree.specs.Spelling.{texts_json, tree_json, trees_json, row_json, rows_json, change_json, changes_json}
+use Rattle.client_merge.specs.Reading.{number_of, is_free, put_change, with_change, trees_of, node_change, fitting, list_change, written, change_of, changes_in, listed_rows, listed_row}
+use Rattle.client_merge.specs.Laws.{IsSmall, AreSmall, RowsAreSmall, ChangeIsSmall, ChangesAreSmall, reach}
 use Rattle.client_merge.proofs.Changes.{free_none, free_put, free_same, put_swap, merge_none, Holds}
-use Rattle.client_merge.proofs.Members.{s_key, is_s, then_ext, then_none, under_statics}
+use Rattle.client_merge.proofs.Members.{s_key, is_s, then_ext, then_none, d_key, under_statics, texts_back, Rowless, rowless_put, by_places}
 
 -- ---- keys
 
@@ -241,6 +241,34 @@ no_s_json n (change c cs) fits =
     get_member-put_other s_key (decimal n) (change_json c) (changes_json (suc n) cs) (not_s (decimal n) (decimal_is_place n (omega arith)))
     ∙ no_s_json (suc n) cs (omega arith)
 
+not_d : (k : List ℕ) → is_place k ≡ true → (d_key ≡ k → ⊥)
+not_d k h same = let f : is_place k ≡ false = ap is_place (sym same) in true≢false (sym h ∙ f)
+
+rowless_trees : (n : ℕ) (ts : Trees) → n + count ts ≤ 2 ^ 64 → Rowless (trees_json n ts)
+rowless_trees n no_trees fits = tt
+rowless_trees n (tree t ts) fits =
+    rowless_put (decimal n) (tree_json t) (trees_json (suc n) ts) (λ same. absurd (not_d (decimal n) (decimal_is_place n (omega arith)) same)) (rowless_trees (suc n) ts (omega arith))
+
+rowless_changes : (n : ℕ) (cs : Changes) → n + reach cs ≤ 2 ^ 64 → Rowless (changes_json n cs)
+rowless_changes n no_changes fits = tt
+rowless_changes n (skip cs) fits = rowless_changes (suc n) cs (omega arith)
+rowless_changes n (change c cs) fits =
+    rowless_put (decimal n) (change_json c) (changes_json (suc n) cs) (λ same. absurd (not_d (decimal n) (decimal_is_place n (omega arith)) same)) (rowless_changes (suc n) cs (omega arith))
+
+-- ---- lists
+
+both_are : {A B C : Type 0} (f : A → B → C) (a : Option A) (b : Option B) (x : A) (y : B) → a ≡ Some x → b ≡ Some y → option_both f a b ≡ Some (f x y)
+both_are f a b x y h g = ap (λ o. option_both f o b) h ∙ ap (option_both f (Some x)) g
+
+list_reads : (st : List (List ℕ)) (rs : Rows) → all_fit (length st) rs ≡ true → listed_rows (rows_json rs) ≡ Some rs → change_of (tree_json (list st rs)) ≡ Some (write (list st rs))
+list_reads st rs fits reads =
+    ap (λ (o : Option Rows). and_then (and_then o (λ q. Some q)) (list_change (Some (array (texts_json st))))) reads
+    ∙ ap (λ (o : Option (List (List ℕ))). and_then o (λ ts. option_map (λ q. write (list ts q)) (fitting (length ts) rs))) (texts_back st)
+    ∙ ap (λ (b : Bool). option_map (λ q. write (list st q)) (if b then Some rs else None)) fits
+
+rows_reads : (rs : Rows) → listed_rows (rows_json rs) ≡ Some rs → change_of (change_json (rows rs)) ≡ Some (rows rs)
+rows_reads rs reads = ap (λ (o : Option Rows). and_then (and_then o (λ q. Some q)) (list_change None)) reads
+
 -- ---- read back
 
 mutual
@@ -248,11 +276,11 @@ mutual
   tree_reads (text t) h = refl
   tree_reads (number n) h = absurd h
   tree_reads (node st ts) h =
-      under_statics st (trees_json 0 ts)
+      under_statics st (trees_json 0 ts) (rowless_trees 0 ts (omega (arith, h.0)))
       ∙ ap (λ (o : Option Changes). option_map (λ ts. write (node st ts)) (and_then o trees_of)) (trees_read 0 ts (omega (arith, h.0)) h.1)
       ∙ ap (λ cs. option_map (λ ts. write (node st ts)) (trees_of cs)) (shifted_zero (writes_from ts))
       ∙ ap (option_map (λ ts. write (node st ts))) (trees_back ts)
-  tree_reads (list st rs) h = absurd h
+  tree_reads (list st rs) h = list_reads st rs h.0 (rows_read rs h.1)
   tree_reads (stream name b st rs) h = absurd h
   tree_reads (held name st hs) h = absurd h
 
@@ -264,14 +292,25 @@ mutual
       ∙ ap (λ (o : Option Changes). and_then o (λ x. with_change n x (write t))) (trees_read (suc n) ts (omega arith) h.1)
       ∙ put_shifted n (write t) (writes_from ts)
 
+  rows_read : (rs : Rows) → RowsAreSmall rs → listed_rows (rows_json rs) ≡ Some rs
+  rows_read no_rows h = refl
+  rows_read (row ts rs) h = both_are row (listed_row (row_json ts)) (listed_rows (rows_json rs)) ts rs (row_reads ts h.0) (rows_read rs h.1)
+
+  row_reads : (ts : Trees) → AreSmall ts → listed_row (row_json ts) ≡ Some ts
+  row_reads no_trees h = refl
+  row_reads (tree t ts) h =
+      both_are tree (and_then (change_of (tree_json t)) written) (listed_row (row_json ts)) t ts
+      (ap (λ (o : Option Change). and_then o written) (tree_reads t h.0)) (row_reads ts h.1)
+
 mutual
   pub change_reads : (c : Change) → ChangeIsSmall c → change_of (change_json c) ≡ Some (trimmed_change c)
   change_reads (write t) h = tree_reads t h
   change_reads (inner cs) h =
-      ap (λ (o : Option Data). and_then (changes_in (changes_json 0 cs) no_changes) (node_change o)) (no_s_json 0 cs (omega (arith, h.0)))
+      by_places (changes_json 0 cs) (rowless_changes 0 cs (omega (arith, h.0)))
+      ∙ ap (λ (o : Option Data). and_then (changes_in (changes_json 0 cs) no_changes) (node_change o)) (no_s_json 0 cs (omega (arith, h.0)))
       ∙ ap (λ (o : Option Changes). and_then o (node_change None)) (changes_read 0 cs (omega (arith, h.0)) h.1)
       ∙ ap (λ ds. Some (inner ds)) (shifted_zero (trimmed cs))
-  change_reads (rows rs) h = absurd h
+  change_reads (rows rs) h = rows_reads rs (rows_read rs h)
   change_reads (batch name b rs) h = absurd h
 
   changes_read : (n : ℕ) (cs : Changes) → n + reach cs ≤ 2 ^ 64 → ChangesAreSmall cs → changes_in (changes_json n cs) no_changes ≡ Some (shifted n (trimmed cs))

@@ -2,12 +2,16 @@ pub mod Changes
 pub mod Gathered
 pub mod Members
 pub mod Views
+pub mod Rows
+pub mod Sent
 pub mod Loops
 pub mod Numbers
 pub mod Applies
 pub mod Shows
 pub mod JsonBack
 pub mod Events
+pub mod Eventless
+pub mod Roots
 pub mod Bytewise
 pub mod Smalls
 pub mod Follows

@@ -10,28 +10,35 @@ use Rattle.std.proofs.lemmas.Map.Text.{is_eq-slice_cmp}
 use Rattle.std.proofs.lemmas.Map.Lookups.{exact_bytes}
 use Rattle.std.proofs.lemmas.Fmt.{decimal-digits_value}
 use Rattle.std.proofs.lemmas.Bool.Decides.{eqb_tells}
-use Rattle.serde_json.specs.Data.{Data, array, object, Members, no_members, member, put}
+use Rattle.serde_json.specs.Data.{Data, array, object, Items, Members, no_members, member, put}
 use Rattle.serde_json.specs.Find.{get_member}
 use Rattle.serde_json.proofs.Views.{get_member-put, get_member-put_other}
 use Rattle.text_core.specs.declared.by_key.KeyValue.{KeyValue}
 use Rattle.text_core.specs.Keyed.{is_before, ascend, keys, lookup, without_key}
 use Rattle.text_core.proofs.Keyed.{order, both_of}
 use Rattle.text_core.proofs.Decimals.{own}
-use Rattle.diff_tree.specs.Tree.{Tree, node, Trees, Change, write, inner, Changes, no_changes, option_both}
+use Rattle.diff_tree.specs.Tree.{Tree, node, Trees, Rows, no_rows, Change, write, inner, Changes, no_changes, option_both}
 use Rattle.diff_tree.specs.Client.{and_then}
 use Rattle.diff_tree.specs.Spelling.{texts_json}
 use Rattle.diff_tree.specs.Grammar.{is_place}
-use Rattle.diff_tree.specs.Parts.{part_data, place_data, part_step, place_step, places_json, seen, node_data, statics_of, places_of}
+use Rattle.diff_tree.specs.Parts.{part_data, place_data, part_step, place_step, body_step, row_step, body_members, places_json, seen, row_data, node_data, statics_of, body_of}
+use Rattle.diff_tree.proofs.Written.{part_data-out}
 use Rattle.diff_tree.specs.declared.part.Part.{Part}
+use Rattle.diff_tree.specs.declared.part.PartBody.{PartBody}
+use Rattle.diff_tree.specs.declared.part.Row.{Row}
 use Rattle.diff_tree.specs.declared.part.PlaceValue.{PlaceValue, out-PlaceValue}
-use Rattle.diff_tree.specs.declared.part.PlaceValue.TheOpen.{PlaceValue-F}
-use Rattle.diff_tree.specs.declared.part.PlaceValue.TheFolds.{fold_out-Part, fold_out-PlaceValue, map-PlaceValue}
-use Rattle.client_merge.specs.Reading.{number_of, is_free, put_change, with_change, trees_of, texts_in, texts_of, node_change, change_of, changes_in, written, tree_of}
+use Rattle.diff_tree.specs.declared.part.PartBody.TheOpen.{PlaceValue-F}
+use Rattle.diff_tree.specs.declared.part.PartBody.TheFolds.{fold_out-PlaceValue, map-PlaceValue}
+use Rattle.client_merge.specs.Reading.{number_of, is_free, put_change, with_change, trees_of, texts_in, texts_of, node_change, change_of, changes_in, rows_in, rows_of, list_change, written, tree_of}
+use Rattle.client_merge.specs.Held.{sent_node}
 use Rattle.client_merge.specs.Planned.{Placed, added, gathered}
 use Rattle.client_merge.proofs.Changes.{free_none, free_put, Holds}
 
 abbrev pub s_key : List ℕ
 s_key = codes "s"
+
+abbrev pub d_key : List ℕ
+d_key = codes "d"
 
 -- ---- keys of places
 
@@ -103,7 +110,7 @@ abbrev pub chain : List (KeyValue PlaceValue) → Members
 chain [] = no_members
 chain (e ∷ es) = member e.key (place_data e.value) (chain es)
 
-places_chain : (es : List (KeyValue PlaceValue)) → ascend (keys es) ≡ true → places_json (seen es) ≡ chain es
+pub places_chain : (es : List (KeyValue PlaceValue)) → ascend (keys es) ≡ true → places_json (seen es) ≡ chain es
 places_chain [] h = refl
 places_chain (e ∷ []) h = refl
 places_chain (e ∷ f ∷ es) h =
@@ -148,23 +155,112 @@ changes_chain (e ∷ es) cs = by (bytes_eq e.key (codes "s")) (changes_chain es)
 
 -- ---- `s`
 
-pub is_s : (l : List ℕ) (o : Ordering) → order s_key l ≡ o → bytes_eq l s_key ≡ is_eq o
-is_s l o is = sym (is_eq-slice_cmp l s_key) ∙ ap is_eq (nat_list_cmp_total.antisymm l s_key ∙ ap ordering_reverse is) ∙ by o
+pub key_is : (k l : List ℕ) (o : Ordering) → order k l ≡ o → bytes_eq l k ≡ is_eq o
+key_is k l o is = sym (is_eq-slice_cmp l k) ∙ ap is_eq (nat_list_cmp_total.antisymm l k ∙ ap ordering_reverse is) ∙ by o
   where
     by : (o : Ordering) → is_eq (ordering_reverse o) ≡ is_eq o
     by Less = refl
     by Equal = refl
     by Greater = refl
 
-pub part_is : (p : Part) → part_data p ≡ node_data (statics_of p) (places_of p)
-part_is p = fold_out-Part Data Data place_step part_step p
+pub is_s : (l : List ℕ) (o : Ordering) → order s_key l ≡ o → bytes_eq l s_key ≡ is_eq o
+is_s l o is = key_is s_key l o is
+
+pub part_is : (p : Part) → part_data p ≡ sent_node (statics_of p) (body_of p)
+part_is p = part_data-out p
 
 no_texts : (v : PlaceValue) → texts_of (place_data v) ≡ None
-no_texts v = ap texts_of (fold_out-PlaceValue Data Data place_step part_step v) ∙ by (out-PlaceValue v)
+no_texts v = ap texts_of (fold_out-PlaceValue Members Data Data Items body_step place_step part_step row_step v) ∙ by (out-PlaceValue v)
   where
-    by : (y : PlaceValue-F PlaceValue Part) → texts_of (place_step (map-PlaceValue PlaceValue Part Data Data place_data part_data y)) ≡ None
+    by : (y : PlaceValue-F PartBody PlaceValue Part Row) → texts_of (place_step (map-PlaceValue PartBody PlaceValue Part Row Members Data Data Items body_members place_data part_data row_data y)) ≡ None
     by (PlaceValue-F.Text t) = refl
+    by (PlaceValue-F.Number n) = refl
     by (PlaceValue-F.Node p) = ap texts_of (part_is p)
+
+-- ---- `d`
+
+-- what is sent for a place is no array
+no_rows_sent : (v : PlaceValue) → rows_of (place_data v) ≡ None
+no_rows_sent v = ap rows_of (fold_out-PlaceValue Members Data Data Items body_step place_step part_step row_step v) ∙ by (out-PlaceValue v)
+  where
+    by : (y : PlaceValue-F PartBody PlaceValue Part Row) → rows_of (place_step (map-PlaceValue PartBody PlaceValue Part Row Members Data Data Items body_members place_data part_data row_data y)) ≡ None
+    by (PlaceValue-F.Text t) = refl
+    by (PlaceValue-F.Number n) = refl
+    by (PlaceValue-F.Node p) = ap rows_of (part_is p)
+
+-- no rows stand under `d`
+abbrev pub Rowless : Members → Type 0
+Rowless no_members = Unit {0}
+Rowless (member k d ms) = (d_key ≡ k → rows_of d ≡ None) × Rowless ms
+
+pub rowless_put : (k : List ℕ) (d : Data) (ms : Members) → (d_key ≡ k → rows_of d ≡ None) → Rowless ms → Rowless (put k d ms)
+rowless_put k d no_members h r = (h, tt)
+rowless_put k d (member l e ms) h r = by (order k l) refl (rowless_put k d ms h r.1)
+  where
+    by : (o : Ordering) → order k l ≡ o → Rowless (put k d ms) → Rowless (match_ordering o (member k d (member l e ms)) (member l d ms) (member l e (put k d ms)))
+    by Less is rest = (h, r)
+    by Equal is rest = ((λ same. h (same ∙ sym (exact_bytes k l is))), r.1)
+    by Greater is rest = (r.0, rest)
+
+rowless_chain : (es : List (KeyValue PlaceValue)) → Rowless (chain es)
+rowless_chain [] = tt
+rowless_chain (e ∷ es) = ((λ same. no_rows_sent e.value), rowless_chain es)
+
+rowless_sent : (es : List (KeyValue PlaceValue)) → Rowless (places_json (seen es))
+rowless_sent [] = tt
+rowless_sent (e ∷ es) = rowless_put e.key (place_data e.value) (places_json (seen es)) (λ same. no_rows_sent e.value) (rowless_sent es)
+
+-- `d` is no place
+d_no_place : (ms : Members) → is_some (get_member d_key ms) ≡ true → (cs : Changes) → changes_in ms cs ≡ None
+d_no_place no_members h cs = cc
+d_no_place (member k e ms) h cs = by (order d_key k) refl h (d_no_place ms)
+  where
+    later : ((ds : Changes) → changes_in ms ds ≡ None) → changes_in (member k e ms) cs ≡ None
+    later rest = on (bytes_eq k s_key) (is_place k)
+      where
+        on : (b p : Bool) → (if b then changes_in ms cs else if p then and_then (and_then (change_of e) (with_change (number_of k) cs)) (changes_in ms) else None) ≡ None
+        on true p = rest cs
+        on false true = then_none (and_then (change_of e) (with_change (number_of k) cs)) (changes_in ms) rest
+        on false false = refl
+
+    by : (o : Ordering) → order d_key k ≡ o → is_some (match_ordering o (get_member d_key ms) (Some e) (get_member d_key ms)) ≡ true
+        → (is_some (get_member d_key ms) ≡ true → (ds : Changes) → changes_in ms ds ≡ None) → changes_in (member k e ms) cs ≡ None
+    by Less is h rest = later (rest h)
+    by Equal is h rest = ap (λ l. changes_in (member l e ms) cs) (sym (exact_bytes d_key k is))
+    by Greater is h rest = later (rest h)
+
+d_no_rows : (ms : Members) → Rowless ms → is_some (get_member d_key ms) ≡ true → (rs : Rows) → rows_in ms rs ≡ None
+d_no_rows no_members r h rs = cc
+d_no_rows (member k e ms) r h rs = by (order d_key k) refl h (d_no_rows ms r.1)
+  where
+    later : ((qs : Rows) → rows_in ms qs ≡ None) → rows_in (member k e ms) rs ≡ None
+    later rest = on (bytes_eq k s_key) (bytes_eq k d_key)
+      where
+        on : (b p : Bool) → (if b then rows_in ms rs else if p then and_then (rows_of e) (rows_in ms) else None) ≡ None
+        on true p = rest rs
+        on false true = then_none (rows_of e) (rows_in ms) rest
+        on false false = refl
+
+    by : (o : Ordering) → order d_key k ≡ o → is_some (match_ordering o (get_member d_key ms) (Some e) (get_member d_key ms)) ≡ true
+        → (is_some (get_member d_key ms) ≡ true → (qs : Rows) → rows_in ms qs ≡ None) → rows_in (member k e ms) rs ≡ None
+    by Less is h rest = later (rest h)
+    by Equal is h rest =
+        let same : d_key ≡ k = exact_bytes d_key k is in
+        ap (λ l. rows_in (member l e ms) rs) (sym same) ∙ ap (λ o. and_then o (rows_in ms)) (r.0 same)
+    by Greater is h rest = later (rest h)
+
+abbrev pub places_change : Members → Option Change
+places_change ms = and_then (changes_in ms no_changes) (node_change (get_member s_key ms))
+
+-- an object without rows is read place by place
+pub by_places : (ms : Members) → Rowless ms → change_of (object ms) ≡ places_change ms
+by_places ms r = by (is_some (get_member d_key ms)) refl
+  where
+    by : (b : Bool) → is_some (get_member d_key ms) ≡ b → (if b then and_then (rows_in ms no_rows) (list_change (get_member s_key ms)) else places_change ms) ≡ places_change ms
+    by true is =
+        ap (λ o. and_then o (list_change (get_member s_key ms))) (d_no_rows ms r is no_rows)
+        ∙ sym (ap (λ o. and_then o (node_change (get_member s_key ms))) (d_no_place ms is no_changes))
+    by false is = refl
 
 s_value : (es : List (KeyValue PlaceValue)) → Holds (get_member s_key (chain es)) (λ d. texts_of d ≡ None)
 s_value [] = tt
@@ -206,13 +302,13 @@ none_left f q = refl
 
 -- a node without statics
 pub inner_is : (es : List (KeyValue PlaceValue)) → ascend (keys es) ≡ true → change_of (node_data None es) ≡ option_map inner (gathered (readings es) no_changes)
-inner_is es up = ap (λ ms. change_of (object ms)) (places_chain es up) ∙ by (get_member s_key (chain es)) refl (s_value es)
+inner_is es up = ap (λ ms. change_of (object ms)) (places_chain es up) ∙ by_places (chain es) (rowless_chain es) ∙ by (get_member s_key (chain es)) refl (s_value es)
   where
     held : (q : Option Changes) → and_then q (node_change None) ≡ option_map inner q
     held None = refl
     held (Some cs) = refl
 
-    by : (o : Option Data) → get_member s_key (chain es) ≡ o → Holds o (λ d. texts_of d ≡ None) → change_of (object (chain es)) ≡ option_map inner (gathered (readings es) no_changes)
+    by : (o : Option Data) → get_member s_key (chain es) ≡ o → Holds o (λ d. texts_of d ≡ None) → places_change (chain es) ≡ option_map inner (gathered (readings es) no_changes)
     by None is h =
         ap (λ (o : Option Data). and_then (changes_in (chain es) no_changes) (node_change o)) is
         ∙ held (changes_in (chain es) no_changes)
@@ -249,15 +345,19 @@ texts_back [] = refl
 texts_back (t ∷ ts) = ap (option_map (λ l. t ∷ l)) (texts_back ts)
 
 -- an object under statics
-pub under_statics : (st : List (List ℕ)) (ms : Members) → change_of (object (put (codes "s") (array (texts_json st)) ms)) ≡ option_map (λ ts. write (node st ts)) (and_then (changes_in ms no_changes) trees_of)
-under_statics st ms =
+pub under_statics : (st : List (List ℕ)) (ms : Members) → Rowless ms → change_of (object (put (codes "s") (array (texts_json st)) ms)) ≡ option_map (λ ts. write (node st ts)) (and_then (changes_in ms no_changes) trees_of)
+under_statics st ms rowless =
     let d : Data = array (texts_json st) in
-    ap (λ (o : Option Data). and_then (changes_in (put s_key d ms) no_changes) (node_change o)) (get_member-put s_key d ms)
+    by_places (put s_key d ms) (rowless_put s_key d ms (λ same. absurd (other same)) rowless)
+    ∙ ap (λ (o : Option Data). and_then (changes_in (put s_key d ms) no_changes) (node_change o)) (get_member-put s_key d ms)
     ∙ ap (λ (o : Option Changes). and_then o (node_change (Some d))) (skip_s d ms no_changes)
     ∙ then_ext (changes_in ms no_changes) (node_change (Some d)) (λ cs. option_map (λ ts. write (node st ts)) (trees_of cs))
     (λ cs. ap (λ (o : Option (List (List ℕ))). option_both (λ st ts. write (node st ts)) o (trees_of cs)) (texts_back st) ∙ some_left (trees_of cs))
     ∙ outside (changes_in ms no_changes)
   where
+    other : d_key ≡ s_key → ⊥
+    other same = let f : false ≡ true = ap (λ k. bytes_eq k s_key) same in true≢false (sym f)
+
     some_left : (q : Option Trees) → option_both (λ st ts. write (node st ts)) (Some st) q ≡ option_map (λ ts. write (node st ts)) q
     some_left None = refl
     some_left (Some ts) = refl
@@ -271,7 +371,7 @@ pub whole_is : (st : List (List ℕ)) (es : List (KeyValue PlaceValue)) → asce
     → change_of (node_data (Some st) es) ≡ option_map (λ ts. write (node st ts)) (and_then (gathered (readings (unstatic es)) no_changes) trees_of)
 whole_is st es up =
     ap (λ ms. change_of (object (put (codes "s") (array (texts_json st)) ms))) (places_chain es up)
-    ∙ under_statics st (chain es)
+    ∙ under_statics st (chain es) (rowless_chain es)
     ∙ ap (λ (o : Option Changes). option_map (λ ts. write (node st ts)) (and_then o trees_of)) (changes_chain es no_changes)
 
 pub written_all : (st : List (List ℕ)) (q : Option Trees) → and_then (option_map (λ ts. write (node st ts)) q) written ≡ option_map (node st) q
@@ -279,7 +379,7 @@ written_all st None = refl
 written_all st (Some ts) = refl
 
 pub node_trees : (st : List (List ℕ)) (es : List (KeyValue PlaceValue)) → tree_of (node_data (Some st) es) ≡ option_map (node st) (and_then (changes_in (places_json (seen es)) no_changes) trees_of)
-node_trees st es = ap (λ (o : Option Change). and_then o written) (under_statics st (places_json (seen es))) ∙ written_all st (and_then (changes_in (places_json (seen es)) no_changes) trees_of)
+node_trees st es = ap (λ (o : Option Change). and_then o written) (under_statics st (places_json (seen es)) (rowless_sent es)) ∙ written_all st (and_then (changes_in (places_json (seen es)) no_changes) trees_of)
 
 s_sent : (es : List (KeyValue PlaceValue)) → Holds (get_member s_key (places_json (seen es))) (λ d. texts_of d ≡ None)
 s_sent [] = tt
@@ -304,16 +404,12 @@ s_sent (e ∷ es) = by (order s_key e.key) refl (s_sent es)
 
 -- what is sent without statics changes places alone
 pub inner_only : (es : List (KeyValue PlaceValue)) (f : Change → Option Tree) → ((cs : Changes) → f (inner cs) ≡ None) → and_then (change_of (node_data None es)) f ≡ None
-inner_only es f h = by (changes_in (places_json (seen es)) no_changes) (get_member s_key (places_json (seen es))) (s_sent es)
+inner_only es f h = ap (λ o. and_then o f) (by_places (places_json (seen es)) (rowless_sent es)) ∙ by (changes_in (places_json (seen es)) no_changes) (get_member s_key (places_json (seen es))) (s_sent es)
   where
     by : (x : Option Changes) (o : Option Data) → Holds o (λ d. texts_of d ≡ None) → and_then (and_then x (node_change o)) f ≡ None
     by None o g = refl
     by (Some cs) None g = h cs
     by (Some cs) (Some d) g = ap (λ (o : Option (List (List ℕ))). and_then (option_both (λ st ts. write (node st ts)) o (trees_of cs)) f) g
-
--- what is sent without statics is no tree
-pub inner_unwritten : (p : Part) → None ≡ statics_of p → tree_of (part_data p) ≡ None
-inner_unwritten p is = ap tree_of (part_is p ∙ ap (λ st. node_data st (places_of p)) (sym is)) ∙ inner_only (places_of p) written (λ cs. refl)
 
 above_s : (es : List (KeyValue PlaceValue)) → is_before s_key (keys es) ≡ true → ascend (keys es) ≡ true → unstatic es ≡ es
 above_s [] h g = refl
@@ -365,11 +461,12 @@ pub trees_are : (es : List (KeyValue PlaceValue)) → ascend (keys es) ≡ true 
 trees_are es up = ap (λ ms. and_then (changes_in ms no_changes) trees_of) (places_chain es up) ∙ ap (λ (o : Option Changes). and_then o trees_of) (changes_chain es no_changes)
 
 pub unwritten_change : (st : List (List ℕ)) (es : List (KeyValue PlaceValue)) → tree_of (node_data (Some st) es) ≡ None → change_of (node_data (Some st) es) ≡ None
-unwritten_change st es h = by (and_then (changes_in (places_json (seen es)) no_changes) trees_of) (under_statics st (places_json (seen es))) (sym (node_trees st es) ∙ h)
+unwritten_change st es h = by (and_then (changes_in (places_json (seen es)) no_changes) trees_of) (under_statics st (places_json (seen es)) (rowless_sent es)) (sym (node_trees st es) ∙ h)
   where
     by : (q : Option Trees) → change_of (node_data (Some st) es) ≡ option_map (λ ts. write (node st ts)) q → option_map (node st) q ≡ None → change_of (node_data (Some st) es) ≡ None
     by None is none = is
     by (Some ts) is none = cc
 
-pub part_of : (p : Part) (st : Option (List (List ℕ))) (es : List (KeyValue PlaceValue)) → st ≡ statics_of p → es ≡ places_of p → part_data p ≡ node_data st es
-part_of p st es s e = part_is p ∙ ap (λ o. node_data o (places_of p)) (sym s) ∙ ap (node_data st) (sym e)
+-- what is sent for these statics and this body
+pub part_of : (p : Part) (st : Option (List (List ℕ))) (b : PartBody) → st ≡ statics_of p → b ≡ body_of p → part_data p ≡ sent_node st b
+part_of p st b s e = part_is p ∙ ap (λ o. sent_node o (body_of p)) (sym s) ∙ ap (sent_node st) (sym e)

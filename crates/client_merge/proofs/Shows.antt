@@ -1,8 +1,12 @@
 -- Statics and values by turns, one after the other.
-use Rattle.std.proofs.Common.{◌≡◌, ℕ, zero, suc, ◌+◌, ◌<◌, List, [], ◌∷◌, ◌++◌, length, get_or, refl, sym, ap, ◌∙◌, arith, append_assoc, Result, Ok, Err, OnOk}
-use Rattle.diff_tree.specs.Tree.{weave}
-use Rattle.client_merge.specs.Held.{held_tree, held_trees, page_of, pages_of}
+use Rattle.std.proofs.Common.{◌≡◌, ℕ, zero, suc, ◌+◌, ◌<◌, ◌≤◌, List, [], ◌∷◌, ◌++◌, length, get_or, drop, refl, sym, ap, ◌∙◌, arith, append_assoc, append-nil, Result, Ok, Err, OnOk}
+use Rattle.std.proofs.Math.ListN.{drop_of_length-le}
+use Rattle.diff_tree.specs.Tree.{weave, flat}
+use Rattle.diff_tree.proofs.Order.{cons_at}
+use Rattle.client_merge.specs.Held.{held_tree, held_trees, held_rows, page_of, pages_of, row_pages}
 use Rattle.client_merge.specs.declared.held.HeldNode.{HeldNode}
+use Rattle.client_merge.specs.declared.held.HeldRow.{HeldRow, out-HeldRow}
+use Rattle.client_merge.proofs.Views.{row-is}
 
 -- what is still to be shown from a place on
 abbrev pub left : ℕ → List (List ℕ) → List HeldNode → List ℕ
@@ -56,3 +60,17 @@ shows_all n ss hs gs old page page' end same kept last =
 pub on_ok : {T E A B : Type 0} (r : Result T E) → (A → B) → OnOk r A → OnOk r B
 on_ok (Ok x) f h = f h
 on_ok (Err e) f h = tt
+
+-- one row more was shown
+pub rows_on : (i : ℕ) (st : List (List ℕ)) (rs : List HeldRow) (r : HeldRow) (page page' old : List ℕ) → i < length rs → r ≡ get_or rs i r → page' ≡ page ++ weave st (pages_of (held_trees (out-HeldRow r).values))
+    → page ++ flat (row_pages st (held_rows (drop i rs))) ≡ old → page' ++ flat (row_pages st (held_rows (drop (i + 1) rs))) ≡ old
+rows_on i st rs r page page' old small is one kept =
+    let w : List ℕ = weave st (pages_of (held_trees (out-HeldRow r).values)) in
+    let rest : List ℕ = flat (row_pages st (held_rows (drop (i + 1) rs))) in
+    ap (λ p. p ++ rest) one ∙ append_assoc page w rest
+    ∙ ap (λ ts. page ++ (weave st (pages_of ts) ++ rest)) (sym (row-is r))
+    ∙ ap (λ l. page ++ flat (row_pages st (held_rows l))) (sym (cons_at rs i r small is)) ∙ kept
+
+pub rows_shown : (i : ℕ) (st : List (List ℕ)) (rs : List HeldRow) (page old : List ℕ) → length rs ≤ i → page ++ flat (row_pages st (held_rows (drop i rs))) ≡ old → page ≡ old
+rows_shown i st rs page old past kept =
+    sym (append-nil page) ∙ ap (λ l. page ++ flat (row_pages st (held_rows l))) (sym (drop_of_length-le rs past)) ∙ kept

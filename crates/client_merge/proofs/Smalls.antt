@@ -1,8 +1,8 @@
--- Trees of texts and nodes alone, taken and merged by a client of the definitions.
-use Rattle.std.proofs.Common.{◌≡◌, ℕ, zero, suc, ◌<◌, ◌^◌, List, [], ◌++◌, Option, Some, None, option_map, Bool, true, false, ◌&&◌, if◌then◌else◌, refl, sym, ap, ◌∙◌, subst}
-use Rattle.diff_tree.specs.Tree.{Tree, text, number, node, list, stream, held, Trees, no_trees, tree, count, Change, write, inner, rows, batch, Changes, no_changes, skip, change, option_both, merge_change, merge_changes, opened, opened_all}
-use Rattle.diff_tree.specs.Client.{PageTree, among, only_among, numbers_in, numbers_in_all, closed, reached, dropped, judged}
-use Rattle.client_merge.specs.Laws.{IsSmall, AreSmall, ChangeIsSmall, ChangesAreSmall}
+-- Trees of texts, nodes and lists alone, taken and merged by a client of the definitions.
+use Rattle.std.proofs.Common.{◌≡◌, ℕ, zero, suc, ◌<◌, ◌^◌, List, [], ◌++◌, length, Option, Some, None, option_map, Bool, true, false, ◌&&◌, if◌then◌else◌, refl, sym, ap, ◌∙◌, subst}
+use Rattle.diff_tree.specs.Tree.{Tree, text, number, node, list, stream, held, Trees, no_trees, tree, count, Rows, no_rows, row, all_fit, Change, write, inner, rows, batch, Changes, no_changes, skip, change, option_both, merge_change, merge_changes, opened, opened_all, opened_rows}
+use Rattle.diff_tree.specs.Client.{PageTree, among, only_among, numbers_in, numbers_in_all, numbers_in_rows, closed, reached, dropped, judged}
+use Rattle.client_merge.specs.Laws.{IsSmall, AreSmall, RowsAreSmall, ChangeIsSmall, ChangesAreSmall}
 use Rattle.client_merge.specs.Alike.{IsSmallPage}
 use Rattle.client_merge.proofs.Changes.{Holds, count_kept}
 
@@ -11,7 +11,7 @@ mutual
   opened_small (text t) h = refl
   opened_small (number n) h = absurd h
   opened_small (node st ts) h = ap (node st) (opened_smalls ts h.1)
-  opened_small (list st rs) h = absurd h
+  opened_small (list st rs) h = ap (list st) (opened_lists rs h.1)
   opened_small (stream name b st rs) h = absurd h
   opened_small (held name st hs) h = absurd h
 
@@ -19,18 +19,26 @@ mutual
   opened_smalls no_trees h = refl
   opened_smalls (tree t ts) h = ap (λ u. tree u (opened_all ts)) (opened_small t h.0) ∙ ap (tree t) (opened_smalls ts h.1)
 
+  opened_lists : (rs : Rows) → RowsAreSmall rs → opened_rows rs ≡ rs
+  opened_lists no_rows h = refl
+  opened_lists (row ts rs) h = ap (λ us. row us (opened_rows rs)) (opened_smalls ts h.0) ∙ ap (row ts) (opened_lists rs h.1)
+
 mutual
   pub no_numbers : (t : Tree) → IsSmall t → numbers_in t ≡ []
   no_numbers (text t) h = refl
   no_numbers (number n) h = absurd h
   no_numbers (node st ts) h = no_numbers_all ts h.1
-  no_numbers (list st rs) h = absurd h
+  no_numbers (list st rs) h = no_numbers_rows rs h.1
   no_numbers (stream name b st rs) h = absurd h
   no_numbers (held name st hs) h = absurd h
 
   no_numbers_all : (ts : Trees) → AreSmall ts → numbers_in_all ts ≡ []
   no_numbers_all no_trees h = refl
   no_numbers_all (tree t ts) h = ap (λ ns. ns ++ numbers_in_all ts) (no_numbers t h.0) ∙ no_numbers_all ts h.1
+
+  no_numbers_rows : (rs : Rows) → RowsAreSmall rs → numbers_in_rows rs ≡ []
+  no_numbers_rows no_rows h = refl
+  no_numbers_rows (row ts rs) h = ap (λ ns. ns ++ numbers_in_rows rs) (no_numbers_all ts h.0) ∙ no_numbers_rows rs h.1
 
 -- ---- a page without components is as it was
 
@@ -55,6 +63,18 @@ dropped_small k p h =
 
 -- ---- what small changes make of small trees is small
 
+rows_small : (rs : Rows) (t : Tree) → IsSmall t → RowsAreSmall rs → Holds (merge_change t (rows rs)) IsSmall
+rows_small rs (text t) h g = tt
+rows_small rs (number n) h g = tt
+rows_small rs (node st ts) h g = tt
+rows_small rs (list st old) h g = by (all_fit (length st) rs) refl
+  where
+    by : (b : Bool) → all_fit (length st) rs ≡ b → Holds (if b then Some (list st (opened_rows rs)) else None) IsSmall
+    by true fits = subst (λ q. IsSmall (list st q)) (sym (opened_lists rs g)) (fits, g)
+    by false fits = tt
+rows_small rs (stream name b st old) h g = tt
+rows_small rs (held name st hs) h g = tt
+
 mutual
   pub merge_small : (c : Change) (t : Tree) → IsSmall t → ChangeIsSmall c → Holds (merge_change t c) IsSmall
   merge_small (write u) t h g = subst IsSmall (sym (opened_small u g)) g
@@ -68,7 +88,7 @@ mutual
   merge_small (inner cs) (list st rs) h g = tt
   merge_small (inner cs) (stream name b st rs) h g = tt
   merge_small (inner cs) (held name st hs) h g = tt
-  merge_small (rows rs) t h g = absurd g
+  merge_small (rows rs) t h g = rows_small rs t h g
   merge_small (batch name b rs) t h g = absurd g
 
   merges_small : (cs : Changes) (ts : Trees) → AreSmall ts → ChangesAreSmall cs → Holds (merge_changes ts cs) AreSmall

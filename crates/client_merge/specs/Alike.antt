@@ -12,7 +12,7 @@ use Rattle.client_merge.specs.Frames.{client_reads, client_reads_all}
 abbrev pub root_held : Option PageTree → Option Tree
 root_held held = option_map (λ p. p.root) held
 
--- a page of texts and nodes alone, without components
+-- a page of texts, nodes and lists alone, without components
 abbrev pub IsSmallPage : PageTree → Type 0
 IsSmallPage p = IsSmall p.root × (p.numbers ≡ []) × ((n : ℕ) → p.component n ≡ None)
 
@@ -36,7 +36,7 @@ IsSmallBody _ = Unit {0}
 abbrev pub frame_bytes : Frame → List ℕ
 frame_bytes f = compact_text (frame_json f)
 
--- a frame of texts and nodes alone, whose bytes spell it
+-- a frame of texts, nodes and lists alone, whose bytes spell it
 abbrev pub IsSmallFrame : Frame → Type 0
 IsSmallFrame f = IsSmallBody f.body × SpellsFrame (frame_bytes f) (frame_json f)
 

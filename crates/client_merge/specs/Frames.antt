@@ -1,18 +1,24 @@
 -- What a client makes of the bytes of frames.
 use Rattle.std.specs.Prelude.{◌≡◌, ℕ, List, [], ◌∷◌, ◌++◌, Option, Some, None, option_map, Bool, false, ◌&&◌, if◌then◌else◌, codes}
 use Rattle.std.specs.Str.{bytes_eq, is_utf8}
-use Rattle.serde_json.specs.Data.{Data, string, array, no_items, item}
+use Rattle.serde_json.specs.Data.{Data, string, array, object, no_items, item}
 use Rattle.serde_json.specs.Find.{get}
 use Rattle.serde_json.specs.Read.{read}
 use Rattle.diff_tree.specs.Tree.{Tree}
 use Rattle.diff_tree.specs.Client.{and_then}
-use Rattle.wire_v2.specs.FrameGrammar.{only_member, without_events, is_frame}
+use Rattle.diff_tree.specs.Grammar.{without}
+use Rattle.wire_v2.specs.FrameGrammar.{only_member, is_frame}
 use Rattle.client_merge.specs.Reading.{tree_of}
 use Rattle.client_merge.specs.Page.{merged_page}
 
 -- a page of this tree, where there is one
 abbrev pub page_with : Option Tree → Option (Option Tree)
 page_with t = option_map (λ u. Some u) t
+
+-- what is sent of a page, without the events beside it. Components stay: as they are not held, they make what is sent bad
+abbrev pub without_events : Data → Data
+without_events (object ms) = object (without (codes "e") ms)
+without_events d = d
 
 -- a page of a tree that was sent, without the events beside it
 abbrev pub page_taken : Data → Option (Option Tree)

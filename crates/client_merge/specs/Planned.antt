@@ -1,9 +1,9 @@
 -- What a planned change of a held tree stands for.
 use Rattle.std.specs.Prelude.{ℕ, List, [], ◌∷◌, map, Option, Some, option_map}
-use Rattle.diff_tree.specs.Tree.{Tree, Change, write, inner, Changes, no_changes, Trees, merge_change, merge_changes}
+use Rattle.diff_tree.specs.Tree.{Tree, Change, write, inner, rows, Changes, no_changes, Trees, merge_change, merge_changes}
 use Rattle.diff_tree.specs.Client.{and_then}
 use Rattle.client_merge.specs.Reading.{with_change}
-use Rattle.client_merge.specs.Held.{held_tree}
+use Rattle.client_merge.specs.Held.{held_tree, held_rows}
 use Rattle.client_merge.specs.declared.plan.HeldChange.{HeldChange}
 use Rattle.client_merge.specs.declared.plan.HeldChange.TheOpen.{HeldChange-F, PlaceChange-F}
 use Rattle.client_merge.specs.declared.plan.HeldChange.TheFolds.{fold-HeldChange, fold-PlaceChange}
@@ -25,6 +25,7 @@ gathered (p ∷ ps) cs = and_then (added p cs) (gathered ps)
 abbrev pub change_step : HeldChange-F (Option Change) Placed → Option Change
 change_step (HeldChange-F.Write h) = Some (write (held_tree h))
 change_step (HeldChange-F.Inner ps) = option_map inner (gathered ps no_changes)
+change_step (HeldChange-F.Rows rs) = Some (rows (held_rows rs))
 
 abbrev pub placed_step : PlaceChange-F (Option Change) Placed → Placed
 placed_step p = (p.place, p.change)

@@ -1,10 +1,10 @@
 -- What a client reads in the JSON of nodes: whole trees, and changes of trees.
-use Rattle.std.specs.Prelude.{ℕ, zero, suc, List, [], ◌∷◌, Option, Some, None, option_map, Bool, true, false, if◌then◌else◌, codes}
+use Rattle.std.specs.Prelude.{ℕ, zero, suc, List, [], ◌∷◌, length, Option, Some, None, is_some, option_map, Bool, true, false, if◌then◌else◌, codes}
 use Rattle.std.specs.Str.{bytes_eq}
 use Rattle.std.specs.Str.Parse.{digits_value}
 use Rattle.serde_json.specs.Data.{Data, string, array, object, Items, no_items, item, Members, no_members, member}
 use Rattle.serde_json.specs.Find.{get_member}
-use Rattle.diff_tree.specs.Tree.{Tree, text, node, Trees, no_trees, tree, Change, write, inner, Changes, no_changes, skip, change, option_both, merge_change}
+use Rattle.diff_tree.specs.Tree.{Tree, text, node, list, Trees, no_trees, tree, Rows, no_rows, row, all_fit, Change, write, inner, rows, Changes, no_changes, skip, change, option_both, merge_change}
 use Rattle.diff_tree.specs.Client.{and_then}
 use Rattle.diff_tree.specs.Grammar.{is_place}
 
@@ -54,11 +54,27 @@ abbrev pub node_change : Option Data → Changes → Option Change
 node_change None cs = Some (inner cs)
 node_change (Some d) cs = option_both (λ st ts. write (node st ts)) (texts_of d) (trees_of cs)
 
--- the change that a JSON value is: a text, or an object whose members are `s` or places
+-- rows, where each has as many values as there are places between so many statics
+abbrev pub fitting : ℕ → Rows → Option Rows
+fitting n rs = if all_fit n rs then Some rs else None
+
+-- a list is written whole under its statics; without them its rows take the place of those that are held
+abbrev pub list_change : Option Data → Rows → Option Change
+list_change None rs = Some (rows rs)
+list_change (Some d) rs = and_then (texts_of d) (λ st. option_map (λ q. write (list st q)) (fitting (length st) rs))
+
+-- the tree that a change writes
+abbrev pub written : Change → Option Tree
+written (write t) = Some t
+written _ = None
+
+-- the change that a JSON value is: a text, a list of rows under `d`, or an object whose members are `s` or places. There is none for the number of a component, nor for the rows of a stream: these are not held
 abbrev mutual
   pub change_of : Data → Option Change
   change_of (string t) = Some (write (text t))
-  change_of (object ms) = and_then (changes_in ms no_changes) (node_change (get_member (codes "s") ms))
+  change_of (object ms) =
+      if is_some (get_member (codes "d") ms) then and_then (rows_in ms no_rows) (list_change (get_member (codes "s") ms))
+      else and_then (changes_in ms no_changes) (node_change (get_member (codes "s") ms))
   change_of _ = None
 
   -- changes, and those of the places among members
@@ -69,10 +85,30 @@ abbrev mutual
       else if is_place k then and_then (and_then (change_of d) (with_change (number_of k) cs)) (changes_in ms)
       else None
 
--- the tree that a change writes
-abbrev pub written : Change → Option Tree
-written (write t) = Some t
-written _ = None
+  -- the rows under `d`, with no member beside it but `s`
+  pub rows_in : Members → Rows → Option Rows
+  rows_in no_members rs = Some rs
+  rows_in (member k d ms) rs =
+      if bytes_eq k (codes "s") then rows_in ms rs
+      else if bytes_eq k (codes "d") then and_then (rows_of d) (rows_in ms)
+      else None
+
+  pub rows_of : Data → Option Rows
+  rows_of (array ds) = listed_rows ds
+  rows_of _ = None
+
+  pub listed_rows : Items → Option Rows
+  listed_rows no_items = Some no_rows
+  listed_rows (item d ds) = option_both row (row_of d) (listed_rows ds)
+
+  -- a row is the list of its places' values, each whole
+  pub row_of : Data → Option Trees
+  row_of (array ds) = listed_row ds
+  row_of _ = None
+
+  pub listed_row : Items → Option Trees
+  listed_row no_items = Some no_trees
+  listed_row (item d ds) = option_both tree (and_then (change_of d) written) (listed_row ds)
 
 -- the tree that a JSON value is
 abbrev pub tree_of : Data → Option Tree

@@ -12,4 +12,16 @@ pub enum HeldNode {
         statics: Names,
         places: Seq<HeldNode>,
     },
+    /// A list: the statics of each row, and the rows.
+    List {
+        statics: Names,
+        rows: Seq<HeldRow>,
+    },
+}
+
+/// A row of a list: what stands at the places between its statics.
+#[cycle(held)]
+#[derive(Debug, Drop)]
+pub struct HeldRow {
+    pub values: Seq<HeldNode>,
 }

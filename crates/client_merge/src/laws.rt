@@ -3,17 +3,17 @@
 ghost use Rattle.client_merge.specs.Alike.{AllReadAlike, FramesReadAlike, FramesRefusedAlike};
 ghost use Rattle.client_merge.specs.Laws.{ReadsTree, ReadsChanges};
 
-/// The JSON of a tree of texts and nodes reads as that tree.
+/// The JSON of a tree of texts, nodes and lists reads as that tree.
 pub fn reads_tree()
     ensures { ReadsTree }
 {}
 
-/// The JSON of changes of texts and nodes reads as changes that merge as they do.
+/// The JSON of changes of texts, nodes and lists reads as changes that merge as they do.
 pub fn reads_changes()
     ensures { ReadsChanges }
 {}
 
-/// A client that reads the bytes of a frame of texts and nodes alone holds what a client of the definitions makes of
+/// A client that reads the bytes of a frame of texts, nodes and lists alone holds what a client of the definitions makes of
 /// the frame, where that takes it.
 #[tactic(auto, using(crate::proofs::Follows::frame_alike))]
 pub fn frames_read_alike()

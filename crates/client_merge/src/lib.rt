@@ -11,12 +11,10 @@ mod number;
 mod plan;
 mod showing;
 mod take;
-#[cfg(test)]
-mod tests;
 
 pub use client::Client;
 pub use fault::MergeFault;
-pub use held::HeldNode;
+pub use held::{HeldNode, HeldRow};
 pub use merging::merge;
 pub use showing::show;
 pub use take::take_tree;

@@ -4,11 +4,12 @@ ghost use Rattle.std.specs.Result.{IsErrOf};
 ghost use Rattle.client_merge.specs.declared.fault.MergeFault.TheVariants as MergeFault;
 ghost use Rattle.diff_tree.specs.Parts.{part_data};
 ghost use Rattle.client_merge.specs.Reading.{merge_data};
-ghost use Rattle.client_merge.specs.Held.{held_tree, held_trees};
+ghost use Rattle.diff_tree.specs.Tree.{merge_change, rows as rows_change};
+ghost use Rattle.client_merge.specs.Held.{held_tree, held_trees, held_rows};
 ghost use Rattle.client_merge.specs.Planned.{planned, planned_all, merged, merged_all};
 
 use crate::plan::{HeldChange, PlaceChange, plan_node};
-use crate::{HeldNode, MergeFault};
+use crate::{HeldNode, HeldRow, MergeFault};
 use diff_tree::Part;
 use std::alloc::Global;
 use std::mem;
@@ -40,7 +41,20 @@ fn apply(alloc: Global, change: HeldChange, held: HeldNode) -> HeldNode
                 statics,
                 places: apply_all(alloc, changes, places),
             },
+            HeldNode::List { statics, rows } => HeldNode::List { statics, rows },
         },
+        HeldChange::Rows(rows) => with_rows(held, rows),
+    }
+}
+
+// A list with other rows.
+fn with_rows(held: HeldNode, rows: Seq<HeldRow>) -> HeldNode
+    ensures { IfSome (merge_change (held_tree held) (rows_change (held_rows rows))) (λ t. t ≡ held_tree result) }
+{
+    match held {
+        HeldNode::Text(text) => HeldNode::Text(text),
+        HeldNode::Node { statics, places } => HeldNode::Node { statics, places },
+        HeldNode::List { statics, rows: old } => HeldNode::List { statics, rows },
     }
 }
 

@@ -1,13 +1,13 @@
 //! What a held tree shows.
 ghost use Rattle.std.specs.Prelude.{◌≡◌, ◌++◌, [], get_or, IfOk, OnOk};
-ghost use Rattle.diff_tree.specs.Tree.{weave};
-ghost use Rattle.client_merge.specs.Held.{held_tree, held_trees, page_of, pages_of};
+ghost use Rattle.diff_tree.specs.Tree.{weave, flat};
+ghost use Rattle.client_merge.specs.Held.{held_tree, held_trees, held_rows, page_of, pages_of, row_pages};
 
-use crate::HeldNode;
+use crate::{HeldNode, HeldRow};
 use std::alloc::Global;
 use text_core::{Names, OutOfMemory, Seq, Text};
 
-/// What a held tree shows: the statics of each node, and what stands between them, by turns.
+/// What a held tree shows: the statics of each node and of each row, and what stands between them, by turns.
 pub fn show(alloc: Global, held: &HeldNode) -> Result<Text, OutOfMemory>
     ensures { IfOk result (λ t. t ≡ page_of (held_tree held.now)) }
 {
@@ -23,7 +23,18 @@ fn show_onto(held: &HeldNode, page: &mut Text) -> Result<(), OutOfMemory>
     match held {
         HeldNode::Text(text) => page.push_str(text.as_str()),
         HeldNode::Node { statics, places } => show_places(places, statics, page),
+        HeldNode::List { statics, rows } => show_rows(rows, statics, page),
     }
+}
+
+#[cycle(show)]
+fn show_rows(rows: &Seq<HeldRow>, statics: &Names, page: &mut Text) -> Result<(), OutOfMemory>
+    ensures { OnOk result (page.new ≡ page.old ++ flat (row_pages statics.now (held_rows rows.now))) }
+{
+    'rows: for row in rows.as_slice() {
+        show_places(&row.values, statics, page)?;
+    }
+    Ok(())
 }
 
 #[cycle(show)]

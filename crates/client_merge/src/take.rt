@@ -1,15 +1,17 @@
 //! Whole trees, taken from nodes as they are sent.
-ghost use Rattle.std.specs.Prelude.{◌≡◌, Some, None, length, codes, IfOk};
+ghost use Rattle.std.specs.Prelude.{◌≡◌, Some, None, true, ◌==◌, suc, length, map, codes, IfOk, OnOk, OnErr};
+ghost use Rattle.std.specs.Option.{is_some};
 ghost use Rattle.std.specs.Result.{IsErrOf};
 ghost use Rattle.client_merge.specs.declared.fault.MergeFault.TheVariants as MergeFault;
-ghost use Rattle.diff_tree.specs.Parts.{part_data, place_data, node_data};
+ghost use Rattle.serde_json.specs.View.{items_of};
+ghost use Rattle.diff_tree.specs.Parts.{part_data, place_data, node_data, list_data};
 ghost use Rattle.text_core.specs.Keyed.{without_key};
-ghost use Rattle.client_merge.specs.Reading.{tree_of};
-ghost use Rattle.client_merge.specs.Held.{held_tree, held_trees, trees_in, blank_trees};
+ghost use Rattle.client_merge.specs.Reading.{tree_of, listed_row};
+ghost use Rattle.client_merge.specs.Held.{held_tree, held_trees, held_row, held_rows, trees_in, sent_node, row_sent, rows_sent, blank_trees};
 
 use crate::number::place_below;
-use crate::{HeldNode, MergeFault};
-use diff_tree::{Part, PlaceValue};
+use crate::{HeldNode, HeldRow, MergeFault};
+use diff_tree::{Part, PartBody, PlaceValue, Row, StreamPart};
 use std::alloc::Global;
 use text_core::{ByKey, KeyValue, Names, OutOfMemory, Seq, Text};
 
@@ -26,16 +28,32 @@ fn take_part(alloc: Global, part: Part) -> Result<HeldNode, MergeFault>
     ensures ok { IfOk result (λ h. tree_of (part_data part) ≡ Some (held_tree h)) }
     ensures bad { IsErrOf result MergeFault.BadFrame → tree_of (part_data part) ≡ None }
 {
-    let (statics, places) = part.into_parts();
+    let (statics, body) = part.into_parts();
     match statics {
-        Some(statics) => take_node(alloc, statics, places),
+        Some(statics) => take_node(alloc, statics, body),
         None => Err(MergeFault::BadFrame),
     }
 }
 
-/// The tree of these statics, and of what is sent for the places between them.
+/// The tree of these statics, and of what is sent between them.
 #[cycle(take)]
 pub(crate) fn take_node(
+    alloc: Global,
+    statics: Names,
+    body: PartBody,
+) -> Result<HeldNode, MergeFault>
+    ensures ok { IfOk result (λ h. tree_of (sent_node (Some statics) body) ≡ Some (held_tree h)) }
+    ensures bad { IsErrOf result MergeFault.BadFrame → tree_of (sent_node (Some statics) body) ≡ None }
+{
+    match body {
+        PartBody::Places(places) => take_place_node(alloc, statics, places),
+        PartBody::List { rows, stream } => take_list(alloc, statics, rows, stream),
+    }
+}
+
+// A node of places.
+#[cycle(take)]
+fn take_place_node(
     alloc: Global,
     statics: Names,
     places: ByKey<PlaceValue>,
@@ -48,12 +66,92 @@ pub(crate) fn take_node(
 }
 
 #[cycle(take)]
+fn take_list(
+    alloc: Global,
+    statics: Names,
+    rows: Seq<Row>,
+    stream: Option<StreamPart>,
+) -> Result<HeldNode, MergeFault>
+    ensures ok { IfOk result (λ h. tree_of (list_data (Some statics) rows stream) ≡ Some (held_tree h)) }
+    ensures bad { IsErrOf result MergeFault.BadFrame → tree_of (list_data (Some statics) rows stream) ≡ None }
+{
+    refuse_stream(stream)?;
+    let rows = take_rows(alloc, rows, statics.len())?;
+    Ok(HeldNode::List { statics, rows })
+}
+
+/// Streams are not held.
+pub(crate) fn refuse_stream(stream: Option<StreamPart>) -> Result<(), MergeFault>
+    ensures ok { OnOk result (stream ≡ None) }
+    ensures bad { OnErr result (is_some stream ≡ true) }
+{
+    match stream {
+        Some(_stream) => Err(MergeFault::BadFrame),
+        None => Ok(()),
+    }
+}
+
+/// The rows that are sent under so many statics; a BadFrame where a row has not as many values as there are places.
+#[cycle(take)]
+pub(crate) fn take_rows(
+    alloc: Global,
+    rows: Seq<Row>,
+    statics: usize,
+) -> Result<Seq<HeldRow>, MergeFault>
+    ensures ok { IfOk result (λ hs. rows_sent statics rows ≡ Some (held_rows hs)) }
+    ensures bad { IsErrOf result MergeFault.BadFrame → rows_sent statics rows ≡ None }
+{
+    let mut taken = Seq::new(alloc);
+    'rows: for row in rows.into_vec() {
+        taken.push(take_row(alloc, row, statics)?)?;
+    }
+    Ok(taken)
+}
+
+#[cycle(take)]
+fn take_row(alloc: Global, row: Row, statics: usize) -> Result<HeldRow, MergeFault>
+    ensures ok { IfOk result (λ h. row_sent statics row ≡ Some (held_row h)) }
+    ensures bad { IsErrOf result MergeFault.BadFrame → row_sent statics row ≡ None }
+{
+    let values = take_values(alloc, row.into_values())?;
+    if !stand_between(&values, statics) {
+        return Err(MergeFault::BadFrame);
+    }
+    Ok(HeldRow { values })
+}
+
+// Whether these are as many as there are places between so many statics.
+fn stand_between(values: &Seq<HeldNode>, statics: usize) -> bool
+    ensures { result ≡ (suc (length values.now) == statics) }
+{
+    match statics.checked_sub(1) {
+        Some(places) => places == values.len(),
+        None => false,
+    }
+}
+
+// The values of a row.
+#[cycle(take)]
+fn take_values(alloc: Global, values: Seq<PlaceValue>) -> Result<Seq<HeldNode>, MergeFault>
+    ensures ok { IfOk result (λ hs. listed_row (items_of (map place_data values)) ≡ Some (held_trees hs)) }
+    ensures bad { IsErrOf result MergeFault.BadFrame → listed_row (items_of (map place_data values)) ≡ None }
+{
+    let mut nodes = Seq::new(alloc);
+    'values: for value in values.into_vec() {
+        nodes.push(take_value(alloc, value)?)?;
+    }
+    Ok(nodes)
+}
+
+#[cycle(take)]
 fn take_value(alloc: Global, value: PlaceValue) -> Result<HeldNode, MergeFault>
     ensures ok { IfOk result (λ h. tree_of (place_data value) ≡ Some (held_tree h)) }
     ensures bad { IsErrOf result MergeFault.BadFrame → tree_of (place_data value) ≡ None }
 {
     match value {
         PlaceValue::Text(text) => Ok(HeldNode::Text(text)),
+        // Components are not held.
+        PlaceValue::Number(_) => Err(MergeFault::BadFrame),
         PlaceValue::Node(part) => take_part(alloc, part),
     }
 }

@@ -1,4 +1,4 @@
--- What a process of a world of texts renders, and what its handlers push.
+-- What a process of a plain world renders, and what its handlers push.
 use Rattle.std.proofs.Common.{◌≡◌, ℕ, List, [], ◌∷◌, ◌++◌, length, Option, Some, None, Ok, Err, Bool, true, false, if◌then◌else◌, nat_lt, refl, sym, subst}
 use Rattle.serde_json.specs.Data.{Data}
 use Rattle.serde_json.specs.Written.{has_float, compact_text}
@@ -8,7 +8,6 @@ use Rattle.value_core.specs.Nesting.{depth_of}
 use Rattle.value_core.specs.declared.raise.Raise.TheVariants.{BadArgument, Deep, InboxFull}
 use Rattle.view_api.specs.Effect.{Effect, assign_to, stream_insert, stream_delete, stream_reset, subscribe, unsubscribe, publish, send_self, push_event}
 use Rattle.wire_v2.proofs.NoFloat.{written_whole}
-use Rattle.ast_core.specs.Places.{places_in}
 use Rattle.diff_tree.specs.Spelling.{Pushed}
 use Rattle.doc_model.specs.Environment.{Component}
 use Rattle.doc_model.specs.Evaluation.{Res, then_do, on_res, or_raise}
@@ -18,18 +17,12 @@ use Rattle.doc_model.specs.Effects.{Rest, Applied, to_publish, storable, sendabl
 use Rattle.doc_model.specs.Process.{World, Route, Page, Turning, Outcome, levels, rendered_page, turning_view, joined_page, view_turn, component_turn, with_owner}
 use Rattle.doc_model.proofs.Results.{On, on_made, on_bind, on_weaker, on_all}
 use Rattle.doc_model.proofs.Journals.{page_of, scope_before, walk_before}
-use Rattle.client_page.specs.Shown.{IsTextWorld}
-use Rattle.client_page.proofs.Texts.{Rendered, renders_texts}
-
-on_then : {A B : Type 0} (P : A → Type 0) (Q : B → Type 0) (r : Res A) (f : A → Res B) → On P r → ((x : A) → P x → On Q (f x)) → On Q (then_do r f)
-on_then P Q (Ok x) f h k = k x h
-on_then P Q (Err e) f h k = tt
+use Rattle.client_page.specs.Shown.{IsPlainWorld}
+use Rattle.client_page.proofs.Few.{count_few}
+use Rattle.client_page.proofs.Places.{on_then, Rendered, renders_plainly}
+use Rattle.client_page.proofs.Beside.{AreWhole}
 
 -- ---- what is pushed has whole numbers alone
-
-abbrev pub AreWhole : List Pushed → Type 0
-AreWhole [] = Unit {0}
-AreWhole (e ∷ es) = (has_float e.1 ≡ false) × AreWhole es
 
 whole_append : (es fs : List Pushed) → AreWhole es → AreWhole fs → AreWhole (es ++ fs)
 whole_append [] fs h g = g
@@ -92,15 +85,15 @@ handlers_whole (Some es) p h = effects_whole es p h
 abbrev outcome_of : World → ℕ → Option (List ℕ) → List ℕ → Turning → Items × Walk Rest → Outcome
 outcome_of w v j t s x = record { page = page_of w v j t s x.0 x.1; rest = x.1.rest }
 
-module _ (w : World) (texts : IsTextWorld w) where
-  pub drawn_texts : (v : ℕ) (s : Turning) → On (Rendered (places_in (w.template_of v)) (walk_before s)) (render_state (views_of w.views) w.site levels (scope_before s) (w.template_of v) (walk_before s))
-  drawn_texts v s = renders_texts Rest (views_of w.views) w.site levels (scope_before s) (w.template_of v) (walk_before s) (texts.flat v)
+module _ (w : World) (plain : IsPlainWorld w) where
+  pub drawn_plainly : (v : ℕ) (s : Turning) → On (Rendered (w.template_of v) (walk_before s)) (render_state (views_of w.views) w.site levels (scope_before s) (w.template_of v) (walk_before s))
+  drawn_plainly v s = renders_plainly Rest (views_of w.views) w.site levels (scope_before s) (w.template_of v) (walk_before s) (plain.plain v) (count_few (w.template_of v) (plain.few v))
 
   rendered_whole : (v : ℕ) (j : Option (List ℕ)) (t : List ℕ) (s : Turning) → RestWhole s.rest → On OutcomeWhole (rendered_page w v j t s)
   rendered_whole v j t s h =
       let r : Res (Items × Walk Rest) = render_state (views_of w.views) w.site levels (scope_before s) (w.template_of v) (walk_before s) in
       on_made OutcomeWhole (outcome_of w v j t s) r
-      (on_weaker (Rendered (places_in (w.template_of v)) (walk_before s)) (λ (x : Items × Walk Rest). OutcomeWhole (outcome_of w v j t s x)) r (λ x e. subst RestWhole (sym e.1) h) (drawn_texts v s))
+      (on_weaker (Rendered (w.template_of v) (walk_before s)) (λ (x : Items × Walk Rest). OutcomeWhole (outcome_of w v j t s x)) r (λ x e. subst RestWhole (sym e.1) h) (drawn_plainly v s))
 
   pub view_whole : (p : Page) (es : Option (List Effect)) (rest : Rest) → RestWhole rest → On OutcomeWhole (view_turn w p es rest)
   view_whole p es rest h =

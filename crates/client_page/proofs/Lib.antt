@@ -1,8 +1,11 @@
-pub mod Texts
-pub mod Sizes
+pub mod Few
+pub mod Places
+pub mod Trees
+pub mod Fit
+pub mod Beside
+pub mod ReadPlain
 pub mod Drawn
 pub mod Pushes
-pub mod Fit
 pub mod Fitting
 pub mod Sends
 pub mod Shows

@@ -1,4 +1,4 @@
--- How a process of a world of texts sends diffs and pushed events.
+-- How a process of a plain world sends diffs and pushed events.
 use Rattle.std.proofs.Common.{◌≡◌, ℕ, suc, List, [], ◌∷◌, ◌++◌, ◌==◌, Ok, Err, Option, Some, None, Bool, true, false, if◌then◌else◌, refl, codes}
 use Rattle.value_core.specs.Value.{Value}
 use Rattle.diff_tree.specs.Client.{PageDiff}
@@ -13,8 +13,9 @@ use Rattle.doc_model.specs.Effects.{Waiting, heard, mailed, sent}
 use Rattle.doc_model.specs.Process.{World, Route, Page, ProcessState, Outcome, Stepped, joined_page, view_turn, component_at, component_turn, reply_to, rest_of, no_difference, push_frames, reply_diff, after_turn, after_join, unchanged, step_join, step_component, step_event, step_patch, is_of, if_fresh, step_message, step_heard, step_info, if_present, mail_value, step_waiting, handled_front, value_of, frame_of, no_route}
 use Rattle.doc_model.specs.Journal.{Entry, text_heard, mail_heard, handled, fell, overrun, Standing, process_step, after_step, frames_from, fault_frames, down_reason}
 use Rattle.doc_model.proofs.Results.{On, on_bind}
-use Rattle.client_page.specs.Shown.{IsTextWorld}
-use Rattle.client_page.proofs.Drawn.{AreWhole, OutcomeWhole, view_whole, component_whole, joined_whole}
+use Rattle.client_page.specs.Shown.{IsPlainWorld}
+use Rattle.client_page.proofs.Beside.{AreWhole}
+use Rattle.client_page.proofs.Drawn.{OutcomeWhole, view_whole, component_whole, joined_whole}
 
 -- under its reference: a diff that answers no message has none, and what is pushed has whole numbers alone
 abbrev pub SentAs : Option (List ℕ) → FrameBody → Type 0
@@ -31,7 +32,7 @@ sent_append : (fs gs : List Frame) → AreSentAs fs → AreSentAs gs → AreSent
 sent_append [] gs h g = g
 sent_append (f ∷ fs) gs h g = (h.0, sent_append fs gs h.1 g)
 
-module _ (w : World) (texts : IsTextWorld w) (s : ProcessState) where
+module _ (w : World) (plain : IsPlainWorld w) (s : ProcessState) where
   abbrev Sent : Stepped → Type 0
   Sent t = AreSentAs t.frames
 
@@ -55,24 +56,24 @@ module _ (w : World) (texts : IsTextWorld w) (s : ProcessState) where
 
   on_join : (inbox : List Waiting) (h : MessageHead) (o : Option Route) → Sent (step_join w s inbox h o)
   on_join inbox h None = (tt, tt)
-  on_join inbox h (Some r) = by (joined_page w r h.join_reference h.topic (rest_of (suc s.generation) inbox)) (joined_whole w texts r h.join_reference h.topic (rest_of (suc s.generation) inbox) tt)
+  on_join inbox h (Some r) = by (joined_page w r h.join_reference h.topic (rest_of (suc s.generation) inbox)) (joined_whole w plain r h.join_reference h.topic (rest_of (suc s.generation) inbox) tt)
     where
       by : (q : Res Outcome) → On OutcomeWhole q → Sent (after_join w (suc s.generation) h inbox r q)
       by (Err e) whole = (tt, tt)
       by (Ok o) whole = (whole, tt)
 
   on_event : (p : Page) (inbox : List Waiting) (h : MessageHead) (name : List ℕ) (v : Value) (n : Option ℕ) → Sent (step_event w s p inbox h name v n)
-  on_event p inbox h name v None = turn p inbox (reply_diff h) (view_turn w p (w.views.handle_event (of_view p.view) name v p.assigns) (rest_of s.generation inbox)) (view_whole w texts p (w.views.handle_event (of_view p.view) name v p.assigns) (rest_of s.generation inbox) tt) (replies h)
+  on_event p inbox h name v None = turn p inbox (reply_diff h) (view_turn w p (w.views.handle_event (of_view p.view) name v p.assigns) (rest_of s.generation inbox)) (view_whole w plain p (w.views.handle_event (of_view p.view) name v p.assigns) (rest_of s.generation inbox) tt) (replies h)
   on_event p inbox h name v (Some n) = by (component_at n p.components)
     where
       by : (c : Option Component) → Sent (step_component w s p inbox h name v c)
       by None = (tt, tt)
-      by (Some c) = turn p inbox (reply_diff h) (component_turn w p c (w.views.handle_event (of_module c.module_name) name v c.assigns) (rest_of s.generation inbox)) (component_whole w texts p c (w.views.handle_event (of_module c.module_name) name v c.assigns) (rest_of s.generation inbox) tt) (replies h)
+      by (Some c) = turn p inbox (reply_diff h) (component_turn w p c (w.views.handle_event (of_module c.module_name) name v c.assigns) (rest_of s.generation inbox)) (component_whole w plain p c (w.views.handle_event (of_module c.module_name) name v c.assigns) (rest_of s.generation inbox) tt) (replies h)
 
   on_patch : (p : Page) (inbox : List Waiting) (h : MessageHead) (o : Option Route) → Sent (step_patch w s p inbox h o)
   on_patch p inbox h None = (tt, tt)
   on_patch p inbox h (Some r) =
-      by (r.view == p.view) (turn p inbox (reply_diff h) (view_turn w p (w.views.handle_params p.view r.params p.assigns) (rest_of s.generation inbox)) (view_whole w texts p (w.views.handle_params p.view r.params p.assigns) (rest_of s.generation inbox) tt) (replies h))
+      by (r.view == p.view) (turn p inbox (reply_diff h) (view_turn w p (w.views.handle_params p.view r.params p.assigns) (rest_of s.generation inbox)) (view_whole w plain p (w.views.handle_params p.view r.params p.assigns) (rest_of s.generation inbox) tt) (replies h))
     where
       by : (b : Bool) → Sent (after_turn s p inbox (reply_diff h) (view_turn w p (w.views.handle_params p.view r.params p.assigns) (rest_of s.generation inbox)))
           → Sent (if b then after_turn s p inbox (reply_diff h) (view_turn w p (w.views.handle_params p.view r.params p.assigns) (rest_of s.generation inbox)) else unchanged s inbox (no_route h ∷ []))
@@ -116,7 +117,7 @@ module _ (w : World) (texts : IsTextWorld w) (s : ProcessState) where
 
   on_info : (inbox : List Waiting) (p : Page) (r : Res Value) → Sent (step_info w s inbox p r)
   on_info inbox p r = turn p inbox (push_frames p) (then_do r (λ v. view_turn w p (w.views.handle_info p.view v p.assigns) (rest_of s.generation inbox)))
-      (on_bind OutcomeWhole r (λ v. view_turn w p (w.views.handle_info p.view v p.assigns) (rest_of s.generation inbox)) (λ v. view_whole w texts p (w.views.handle_info p.view v p.assigns) (rest_of s.generation inbox) tt)) (pushes p)
+      (on_bind OutcomeWhole r (λ v. view_turn w p (w.views.handle_info p.view v p.assigns) (rest_of s.generation inbox)) (λ v. view_whole w plain p (w.views.handle_info p.view v p.assigns) (rest_of s.generation inbox) tt)) (pushes p)
 
   on_waiting : (inbox : List Waiting) (m : Waiting) → Sent (step_waiting w s inbox m)
   on_waiting inbox (heard bytes) = on_heard inbox (message_of bytes)
@@ -138,6 +139,6 @@ module _ (w : World) (texts : IsTextWorld w) (s : ProcessState) where
   step_sent inbox (fell fs) = faults (Some (codes "out of memory")) s.page
   step_sent inbox (overrun why fs) = faults (Some (down_reason why)) s.page
 
-pub frames_sent : (w : World) → IsTextWorld w → (s : Standing) (es : List Entry) → AreSentAs (frames_from w s es)
-frames_sent w texts s [] = tt
-frames_sent w texts s (e ∷ es) = sent_append (process_step w s e).frames (frames_from w (after_step (process_step w s e)) es) (step_sent w texts s.state s.inbox e) (frames_sent w texts (after_step (process_step w s e)) es)
+pub frames_sent : (w : World) → IsPlainWorld w → (s : Standing) (es : List Entry) → AreSentAs (frames_from w s es)
+frames_sent w plain s [] = tt
+frames_sent w plain s (e ∷ es) = sent_append (process_step w s e).frames (frames_from w (after_step (process_step w s e)) es) (step_sent w plain s.state s.inbox e) (frames_sent w plain (after_step (process_step w s e)) es)

@@ -1,5 +1,5 @@
--- What a process of a world of texts sends: nodes and texts alone.
-use Rattle.std.proofs.Common.{◌≡◌, ℕ, ◌<◌, ◌^◌, suc, List, [], ◌∷◌, ◌++◌, length, Option, Some, None, sym, ap, ◌∙◌, subst}
+-- What a process of a plain world sends: texts, nodes and lists alone.
+use Rattle.std.proofs.Common.{ℕ, List, [], ◌∷◌, ◌++◌, Option, Some, None, sym, subst}
 use Rattle.diff_tree.specs.Client.{PageDiff}
 use Rattle.diff_tree.specs.Spelling.{Pushed}
 use Rattle.diff_tree.specs.Frame.{Frame, FrameBody, empty, rendered, changed, refusal, no_cids, push, closed, faulted}
@@ -14,13 +14,14 @@ use Rattle.doc_model.proofs.Results.{On}
 use Rattle.doc_model.proofs.StepKinds.{IsQuiet, AllQuiet, IsPlain, AllPlain, Carries, Renders, Rerenders, by_kind}
 use Rattle.doc_model.proofs.Journals.{Draws, walk_before, drawn}
 use Rattle.client_merge.specs.Alike.{IsSmallBody, IsSmallDiff}
-use Rattle.client_page.specs.Shown.{IsTextWorld}
-use Rattle.client_page.proofs.Texts.{how_many, TextsOf, Rendered}
-use Rattle.client_page.proofs.Drawn.{drawn_texts}
-use Rattle.client_page.proofs.Sizes.{FewTexts, page_small, diff_small}
-use Rattle.client_page.proofs.Fitting.{BodyFits, cut_len, whole_fits, told_fits}
+use Rattle.client_page.specs.Shown.{IsPlainWorld}
+use Rattle.client_page.proofs.Few.{count_few}
+use Rattle.client_page.proofs.Places.{Meets, around, few_met, Rendered}
+use Rattle.client_page.proofs.Drawn.{drawn_plainly}
+use Rattle.client_page.proofs.Trees.{FewRight, page_small, diff_small}
+use Rattle.client_page.proofs.Fitting.{BodyFits, whole_fits, told_fits}
 
--- nodes and texts alone, in the form of frames
+-- texts, nodes and lists alone, in the form of frames
 abbrev pub IsSound : FrameBody → Type 0
 IsSound b = IsSmallBody b × BodyFits b
 
@@ -28,10 +29,10 @@ abbrev pub AreSound : List Frame → Type 0
 AreSound [] = Unit {0}
 AreSound (f ∷ fs) = IsSound f.body × AreSound fs
 
--- a page that met texts alone, if there is one
-abbrev pub TextPage : Option Page → Type 0
-TextPage None = Unit {0}
-TextPage (Some p) = FewTexts p.met
+-- a page that met what fits, if there is one
+abbrev pub RightPage : Option Page → Type 0
+RightPage None = Unit {0}
+RightPage (Some p) = FewRight p.met
 
 sound_append : (fs gs : List Frame) → AreSound fs → AreSound gs → AreSound (fs ++ gs)
 sound_append [] gs h g = g
@@ -75,47 +76,43 @@ told_small d (rendered t es) h c = absurd c
 told_small d closed h c = absurd c
 told_small d (faulted reason) h c = absurd c
 
-module _ (w : World) (texts : IsTextWorld w) where
-  met_texts : (v : ℕ) (s : Turning) (is : Items) (r : Walk Rest) → Draws w levels v s is r → TextsOf (places_in (w.template_of v)) is
-  met_texts v s is r d =
-      let these : Rendered (places_in (w.template_of v)) (walk_before s) (is, r) = subst (On (Rendered (places_in (w.template_of v)) (walk_before s))) d (drawn_texts w texts v s) in
+module _ (w : World) (plain : IsPlainWorld w) where
+  met_right : (v : ℕ) (s : Turning) (is : Items) (r : Walk Rest) → Draws w levels v s is r → Meets (places_in (w.template_of v)) is
+  met_right v s is r d =
+      let these : Rendered (w.template_of v) (walk_before s) (is, r) = subst (On (Rendered (w.template_of v) (walk_before s))) d (drawn_plainly w plain v s) in
       these.0
 
-  few_texts : (v : ℕ) (is : Items) → TextsOf (places_in (w.template_of v)) is → FewTexts is
-  few_texts v is h = (h.0, subst (λ n. n < 2 ^ 64) (sym h.1) (texts.few v))
+  few_right : (v : ℕ) (is : Items) → Meets (places_in (w.template_of v)) is → FewRight is
+  few_right v is h = (h.0, few_met (places_in (w.template_of v)) is (count_few (w.template_of v) (plain.few v)).0 h)
 
-  first_texts : (v : ℕ) (o : Outcome) → Renders w v o → TextsOf (places_in (w.template_of v)) o.page.met
-  first_texts v o r = drawn w v r.join_reference r.topic r.before o (λ p. TextsOf (places_in (w.template_of v)) p.met) (λ is x d. met_texts v r.before is x d) r.rendered
+  first_right : (v : ℕ) (o : Outcome) → Renders w v o → Meets (places_in (w.template_of v)) o.page.met
+  first_right v o r = drawn w v r.join_reference r.topic r.before o (λ p. Meets (places_in (w.template_of v)) p.met) (λ is x d. met_right v r.before is x d) r.rendered
 
-  next_texts : (p : Page) (o : Outcome) → Rerenders w p o → FewTexts o.page.met
-  next_texts p o r = drawn w p.view p.join_reference p.topic r.before o (λ q. FewTexts q.met) (λ is x d. few_texts p.view is (met_texts p.view r.before is x d)) r.rendered
+  next_right : (p : Page) (o : Outcome) → Rerenders w p o → FewRight o.page.met
+  next_right p o r = drawn w p.view p.join_reference p.topic r.before o (λ q. FewRight q.met) (λ is x d. few_right p.view is (met_right p.view r.before is x d)) r.rendered
 
-  -- one static more than there are places
-  around : (v : ℕ) (is : Items) → TextsOf (places_in (w.template_of v)) is → length (cut (w.template_of v)) ≡ suc (how_many is)
-  around v is h = cut_len (w.template_of v) ∙ ap suc (sym h.1)
-
-  joined_sound : (v : ℕ) (o : Outcome) (es : List Pushed) → Renders w v o → FewTexts o.page.met × IsSound (rendered (whole_tree (cut (w.template_of v)) o.page.met) es)
+  joined_sound : (v : ℕ) (o : Outcome) (es : List Pushed) → Renders w v o → FewRight o.page.met × IsSound (rendered (whole_tree (cut (w.template_of v)) o.page.met) es)
   joined_sound v o es r =
-      let t = first_texts v o r in
-      let f = few_texts v o.page.met t in
-      (f, (page_small (cut (w.template_of v)) o.page.met f, whole_fits (cut (w.template_of v)) o.page.met es f (around v o.page.met t)))
+      let t = first_right v o r in
+      let f = few_right v o.page.met t in
+      (f, (page_small (cut (w.template_of v)) o.page.met f, whole_fits (cut (w.template_of v)) o.page.met es f (around (w.template_of v) o.page.met t)))
 
-  told_sound : (p : Page) (o : Outcome) (b : FrameBody) → FewTexts p.met → Rerenders w p o → Carries (lean_diff p.met o.page.met) b → IsSound b
+  told_sound : (p : Page) (o : Outcome) (b : FrameBody) → FewRight p.met → Rerenders w p o → Carries (lean_diff p.met o.page.met) b → IsSound b
   told_sound p o b h r c =
-      let f = next_texts p o r in
+      let f = next_right p o r in
       (told_small (lean_diff p.met o.page.met) b (diff_small p.met o.page.met h f) c, told_fits p.met o.page.met b h f c)
 
-  step_sound : (s : Standing) (e : Entry) → TextPage s.state.page → TextPage (process_step w s e).state.page × AreSound (process_step w s e).frames
+  step_sound : (s : Standing) (e : Entry) → RightPage s.state.page → RightPage (process_step w s e).state.page × AreSound (process_step w s e).frames
   step_sound s e h =
-      by_kind w s.state (λ o fs. TextPage o × AreSound fs)
+      by_kind w s.state (λ o fs. RightPage o × AreSound fs)
       (λ fs q. (h, all_quiet_sound fs q))
       (λ fs q n. (tt, all_plain_sound fs q))
       (λ m r o d. let j = joined_sound r.view o o.rest.pushed d in (j.0, (j.1, tt)))
-      (λ p o u d n fs q. (next_texts p o d, all_quiet_sound fs q))
-      (λ p o u d f c. (next_texts p o d, (told_sound p o f.body (subst TextPage u h) d c, tt)))
+      (λ p o u d n fs q. (next_right p o d, all_quiet_sound fs q))
+      (λ p o u d f c. (next_right p o d, (told_sound p o f.body (subst RightPage u h) d c, tt)))
       s.inbox e
 
-  pub frames_sound : (s : Standing) (es : List Entry) → TextPage s.state.page → AreSound (frames_from w s es)
+  pub frames_sound : (s : Standing) (es : List Entry) → RightPage s.state.page → AreSound (frames_from w s es)
   frames_sound s [] h = tt
   frames_sound s (e ∷ es) h =
       let x = step_sound s e h in

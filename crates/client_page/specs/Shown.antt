@@ -1,11 +1,11 @@
 -- What a client shows that reads the bytes of a process's frames.
-use Rattle.std.specs.Prelude.{◌≡◌, ◌<◌, ◌^◌, ℕ, List, [], ◌∷◌, length, Option, Some, None, Ok, true}
+use Rattle.std.specs.Prelude.{◌≡◌, ◌<◌, ◌^◌, ℕ, List, [], ◌∷◌, Option, Some, None, Ok, true}
 use Rattle.std.specs.Str.{is_utf8}
 use Rattle.serde_json.specs.Read.{read}
 use Rattle.diff_tree.specs.Tree.{Tree}
 use Rattle.diff_tree.specs.Frame.{Frame, frame_json}
-use Rattle.ast_core.specs.Places.{places_in}
-use Rattle.slot_compile.specs.Template.{all_flat}
+use Rattle.slot_compile.specs.Template.{all_plain}
+use Rattle.slot_compile.specs.Numbering.{place_count}
 use Rattle.doc_model.specs.Process.{World, Page, page_text}
 use Rattle.doc_model.specs.Journal.{Entry, begin_standing, replay_journal, frames_from, spelled}
 use Rattle.client_merge.specs.Held.{page_of}
@@ -13,10 +13,11 @@ use Rattle.client_merge.specs.Frames.{client_reads_all}
 use Rattle.client_merge.specs.Alike.{frame_bytes}
 use Rattle.live_page.specs.World.{site}
 
--- a world whose templates have fewer than 2^64 places, which have nothing inside: no template calls anything
-pub record IsTextWorld (w : World) : Type 0 where
-  pub flat : (v : ℕ) → all_flat (w.template_of v) ≡ true
-  pub few : (v : ℕ) → length (places_in (w.template_of v)) < 2 ^ 64
+-- a world whose templates have texts, elements, interpolations, attributes, spreads, conditions, cases and loops alone, each of
+-- fewer than 2^64 places with those inside: no template calls anything
+pub record IsPlainWorld (w : World) : Type 0 where
+  pub plain : (v : ℕ) → all_plain (w.template_of v) ≡ true
+  pub few : (v : ℕ) → place_count (w.template_of v) < 2 ^ 64
   pub calls_nothing : w.site ≡ site
 
 -- the bytes of a frame are UTF-8, and its JSON value is read from them: so it is where it nests at most 127 deep, the keys

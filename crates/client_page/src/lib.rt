@@ -13,6 +13,7 @@ use view_api::Views;
 pub fn client_shows_page<V: Views>(app: &App<V>)
     ensures { ClientShowsPage (world_of V.meaning app.now) }
 {
-    // What stands in memory has fewer than 2^64 places.
-    let _count = app.compiled.dynamics().len();
+    // The template has fewer than 2^64 places, all of them of the kinds that are compiled.
+    let _count = app.compiled.places();
+    app.compiled.places_are_plain();
 }

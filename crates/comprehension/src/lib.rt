@@ -4,8 +4,6 @@
 mod bind;
 mod generator;
 mod matching;
-#[cfg(test)]
-mod tests;
 
 pub use bind::{binding, bindings};
 pub use generator::{ItemsFault, items};

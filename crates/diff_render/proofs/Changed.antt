@@ -1,35 +1,20 @@
--- Whether a name that an expression reads differs.
-use Rattle.std.proofs.Common.{◌≡◌, ℕ, List, [], ◌∷◌, Option, Some, None, Bool, true, false, not, ◌&&◌, ◌||◌, option_map, refl, sym, ap, ◌∙◌, if◌then◌else◌, Less, Equal, Greater, nat_cmp}
+-- Whether a name that is read differs from what it was.
+use Rattle.std.proofs.Common.{◌≡◌, ℕ, List, [], ◌∷◌, Option, Some, None, Bool, true, false, not, ◌&&◌, ◌||◌, refl, sym, ap, ◌∙◌, if◌then◌else◌, Less, Equal, Greater, nat_cmp}
 use Rattle.std.specs.List.{list_any}
-use Rattle.std.specs.Str.{bytes_eq}
 use Rattle.std.specs.Ordering.{match_ordering}
 use Rattle.std.specs.declared.cmp.Ordering.{Ordering}
 use Rattle.std.specs.Cmp.Lexicographic.{slice_cmp}
 use Rattle.std.proofs.lemmas.Map.Lookups.{exact_bytes}
-use Rattle.text_core.specs.declared.by_key.KeyValue.{KeyValue}
-use Rattle.text_core.specs.Keyed.{lookup as kept}
 use Rattle.value_core.specs.Value.{Value, Assigns}
-use Rattle.value_core.specs.View.{view, assigns_view}
-use Rattle.value_core.specs.declared.value.Value.{Value as Stored}
 use Rattle.ast_core.specs.Syntax.{Name, at, var}
-use Rattle.ast_core.specs.Reads.{with_name, assigns_in}
+use Rattle.ast_core.specs.Reads.{with_name, assigns_in, variables_in}
 use Rattle.assigns_track.specs.declared.tracked.Tracked.{Tracked}
 use Rattle.assigns_track.specs.Track.{present_of, settled_of, differ}
 use Rattle.doc_model.proofs.Sames.{option_sound, same_refl}
 use Rattle.doc_model.specs.Environment.{lookup, same_option, reading, same_reading}
-use Rattle.diff_render.specs.Met.{scope_of}
-use Rattle.diff_render.specs.Places.{AreChanged}
-use Rattle.diff_render.specs.Renders.{HasSettled, present}
-
--- a value at a name, seen
-pub lookup_seen : (n : List ℕ) (es : List (KeyValue Stored)) → lookup n (assigns_view es) ≡ option_map view (kept n es)
-lookup_seen n [] = refl
-lookup_seen n (e ∷ es) = by (bytes_eq n e.key) (lookup_seen n es)
-  where
-    by : (b : Bool) → lookup n (assigns_view es) ≡ option_map view (kept n es)
-        → (if b then Some (view e.value) else lookup n (assigns_view es)) ≡ option_map view (if b then Some e.value else kept n es)
-    by true h = refl
-    by false h = h
+use Rattle.expr_eval.proofs.Views.{lookup_seen}
+use Rattle.diff_render.specs.Tracked.{AreChanged, HasSettled, present, scope_now, scope_then, variable_differs, variables_before, variables_now}
+use Rattle.diff_render.specs.declared.scope.Tracking.{Tracking}
 
 same_self : (o : Option Value) → same_option o o ≡ true
 same_self None = refl
@@ -68,6 +53,10 @@ or_turned true true d = refl
 or_turned true false d = refl
 or_turned false c d = refl
 
+or_grouped : (b c d : Bool) → ((b || c) || d) ≡ (b || (c || d))
+or_grouped true c d = refl
+or_grouped false c d = refl
+
 -- a test of any name, with one more
 any_more : (f : List ℕ → Bool) (k : List ℕ) (ls : List (List ℕ)) → list_any f (with_name k ls) ≡ (f k || list_any f ls)
 any_more f k [] = refl
@@ -83,23 +72,48 @@ not_both : (a b : Bool) → not (a && b) ≡ (not a || not b)
 not_both true b = refl
 not_both false b = refl
 
-one_more : (t : Tracked) (before : Assigns) (a : List ℕ) (rest : Bool) → HasSettled t before
+-- one name more, whose value is now and was then
+one_more : (now then' : Option Value) (rest : Bool) → (differ now then' || not rest) ≡ not (same_option then' now && rest)
+one_more now then' rest = ap (λ b. b || not rest) (not_same now then') ∙ sym (not_both (same_option then' now) rest)
+
+assign_more : (t : Tracked) (before : Assigns) (a : List ℕ) (rest : Bool) → HasSettled t before
     → (differ (present_of t a) (settled_of t a) || not rest) ≡ not (same_option (lookup a before) (lookup a (present t)) && rest)
-one_more t before a rest settled =
-    ap (λ b. b || not rest) (not_same (present_of t a) (settled_of t a))
-    ∙ ap (λ o. not (same_option (settled_of t a) o) || not rest) (sym (lookup_seen a t.present))
-    ∙ ap (λ o. not (same_option o (lookup a (present t))) || not rest) (sym (settled a))
-    ∙ sym (not_both (same_option (lookup a before) (lookup a (present t))) rest)
+assign_more t before a rest settled =
+    one_more (present_of t a) (settled_of t a) rest
+    ∙ ap (λ o. not (same_option (settled_of t a) o && rest)) (lookup_seen a t.present)
+    ∙ ap (λ o. not (same_option o (lookup a (present t)) && rest)) (sym (settled a))
 
--- an assign that is read differs exactly where what is read is not the same
-any_differs : (t : Tracked) (before : Assigns) (ns : List Name) → HasSettled t before
-    → list_any (λ n. differ (present_of t n) (settled_of t n)) (assigns_in ns) ≡ not (same_reading (reading (scope_of before) ns) (reading (scope_of (present t)) ns))
-any_differs t before [] settled = refl
-any_differs t before (at a ∷ ns) settled =
-    any_more (λ n. differ (present_of t n) (settled_of t n)) a (assigns_in ns)
-    ∙ ap (λ b. differ (present_of t a) (settled_of t a) || b) (any_differs t before ns settled)
-    ∙ one_more t before a (same_reading (reading (scope_of before) ns) (reading (scope_of (present t)) ns)) settled
-any_differs t before (var v ∷ ns) settled = any_differs t before ns settled
+abbrev pub assign_differs : Tracked → List ℕ → Bool
+assign_differs t n = differ (present_of t n) (settled_of t n)
 
-pub any_changed : (t : Tracked) (ns : List Name) (b : Bool) → b ≡ list_any (λ n. differ (present_of t n) (settled_of t n)) (assigns_in ns) → AreChanged t ns b
-any_changed t ns b h before settled = h ∙ any_differs t before ns settled
+-- an assign or a variable that is read differs exactly where what is read is not the same
+any_differs : (t : Tracked) (tr : Tracking) (before : Assigns) (ns : List Name) → HasSettled t before
+    → (list_any (assign_differs t) (assigns_in ns) || list_any (variable_differs tr) (variables_in ns)) ≡ not (same_reading (reading (scope_then before tr) ns) (reading (scope_now t tr) ns))
+any_differs t tr before [] settled = refl
+any_differs t tr before (at a ∷ ns) settled =
+    ap (λ b. b || list_any (variable_differs tr) (variables_in ns)) (any_more (assign_differs t) a (assigns_in ns))
+    ∙ or_grouped (assign_differs t a) (list_any (assign_differs t) (assigns_in ns)) (list_any (variable_differs tr) (variables_in ns))
+    ∙ ap (λ b. assign_differs t a || b) (any_differs t tr before ns settled)
+    ∙ assign_more t before a (same_reading (reading (scope_then before tr) ns) (reading (scope_now t tr) ns)) settled
+any_differs t tr before (var v ∷ ns) settled =
+    ap (λ b. list_any (assign_differs t) (assigns_in ns) || b) (any_more (variable_differs tr) v (variables_in ns))
+    ∙ or_turned (variable_differs tr v) (list_any (assign_differs t) (assigns_in ns)) (list_any (variable_differs tr) (variables_in ns))
+    ∙ ap (λ b. variable_differs tr v || b) (any_differs t tr before ns settled)
+    ∙ one_more (lookup v (variables_now tr)) (lookup v (variables_before tr)) (same_reading (reading (scope_then before tr) ns) (reading (scope_now t tr) ns))
+
+pub any_changed : (t : Tracked) (tr : Tracking) (ns : List Name) (as' vs : List (List ℕ)) (b : Bool) → as' ≡ assigns_in ns → vs ≡ variables_in ns
+    → b ≡ (list_any (assign_differs t) as' || list_any (variable_differs tr) vs) → AreChanged t tr ns b
+any_changed t tr ns as' vs b assigns variables h before settled =
+    h
+    ∙ ap (λ l. list_any (assign_differs t) l || list_any (variable_differs tr) vs) assigns
+    ∙ ap (λ l. list_any (assign_differs t) (assigns_in ns) || list_any (variable_differs tr) l) variables
+    ∙ any_differs t tr before ns settled
+
+-- an assign that differs is enough; and else a variable
+pub assign_changed : (t : Tracked) (tr : Tracking) (ns : List Name) (as' vs : List (List ℕ)) (b : Bool) → as' ≡ assigns_in ns → vs ≡ variables_in ns → b ≡ list_any (assign_differs t) as' → b ≡ true
+    → AreChanged t tr ns b
+assign_changed t tr ns as' vs b assigns variables h is = any_changed t tr ns as' vs b assigns variables (is ∙ ap (λ c. c || list_any (variable_differs tr) vs) (sym is ∙ h))
+
+pub variable_decides : (t : Tracked) (tr : Tracking) (ns : List Name) (as' vs : List (List ℕ)) (a b : Bool) → as' ≡ assigns_in ns → vs ≡ variables_in ns → a ≡ list_any (assign_differs t) as' → a ≡ false
+    → b ≡ list_any (variable_differs tr) vs → AreChanged t tr ns b
+variable_decides t tr ns as' vs a b assigns variables h is k = any_changed t tr ns as' vs b assigns variables (k ∙ ap (λ c. c || list_any (variable_differs tr) vs) (sym is ∙ h))

@@ -1,18 +1,18 @@
 -- Members that are put into an object.
-use Rattle.std.proofs.Common.{◌≡◌, ℕ, List, [], ◌∷◌, refl, sym, ap, ◌∙◌, Less, Equal, Greater, nat_cmp, Result, Ok, Err, OnOk}
+use Rattle.std.proofs.Common.{◌≡◌, ℕ, List, [], ◌∷◌, refl, sym, ap, ◌∙◌, Less, Equal, Greater, nat_cmp}
 use Rattle.std.specs.Ordering.{ordering_reverse, match_ordering}
 use Rattle.std.specs.declared.cmp.Ordering.{Ordering}
 use Rattle.std.specs.Cmp.Lexicographic.{slice_cmp, nat_list_cmp_total}
 use Rattle.std.proofs.lemmas.Map.Lookups.{exact_bytes}
-use Rattle.serde_json.specs.Data.{Data, string, Members, no_members, member, put}
+use Rattle.serde_json.specs.Data.{Data, Items, string, Members, no_members, member, put}
 use Rattle.text_core.specs.declared.by_key.KeyValue.{KeyValue}
 use Rattle.text_core.specs.Keyed.{entry, with_key}
-use Rattle.std.specs.Fmt.{decimal}
 use Rattle.diff_tree.specs.declared.part.PlaceValue.{PlaceValue}
-use Rattle.diff_tree.specs.declared.part.PlaceValue.TheVariants.{Text, rolls-Text}
-use Rattle.diff_tree.specs.Parts.{place_data, places_json, seen, place_step, part_step}
-use Rattle.diff_tree.specs.declared.part.PlaceValue.TheOpen.{PlaceValue-F}
-use Rattle.diff_tree.specs.declared.part.PlaceValue.TheFolds.{fold-roll-PlaceValue}
+use Rattle.diff_tree.specs.declared.part.Part.{Part}
+use Rattle.diff_tree.specs.declared.part.PlaceValue.TheVariants.{Text, rolls-Text, Node, rolls-Node}
+use Rattle.diff_tree.specs.Parts.{body_step, part_data, place_data, places_json, row_step, seen, place_step, part_step}
+use Rattle.diff_tree.specs.declared.part.PartBody.TheOpen.{PlaceValue-F}
+use Rattle.diff_tree.specs.declared.part.PartBody.TheFolds.{fold-roll-PlaceValue}
 
 abbrev pub order : List ℕ → List ℕ → Ordering
 order = slice_cmp nat_cmp
@@ -74,12 +74,9 @@ places_put k v (e ∷ es) = by (order k e.key) refl (places_put k v es)
     by Equal is rest = sym (put_twice k e.key (place_data v) (place_data e.value) (places_json (seen es)) is)
     by Greater is rest = ap (put e.key (place_data e.value)) rest ∙ put_lesser e.key k (place_data e.value) (place_data v) (places_json (seen es)) (turned_back k e.key is)
 
-text_seen : (t : List ℕ) → place_data (Text t) ≡ string t
-text_seen t = ap place_data (sym (rolls-Text t)) ∙ fold-roll-PlaceValue Data Data place_step part_step (PlaceValue-F.Text t)
+-- a text and a node, seen
+pub text_seen : (t : List ℕ) → place_data (Text t) ≡ string t
+text_seen t = ap place_data (sym (rolls-Text t)) ∙ fold-roll-PlaceValue Members Data Data Items body_step place_step part_step row_step (PlaceValue-F.Text t)
 
--- a text that is put under a number
-pub puts_text : {E : Type 0} (r : Result (Unit {0}) E) (k : ℕ) (t : List ℕ) (old new : List (KeyValue PlaceValue)) (key : List ℕ) → key ≡ decimal k
-    → OnOk r (new ≡ with_key key (Text t) old) → OnOk r (places_json (seen new) ≡ put (decimal k) (string t) (places_json (seen old)))
-puts_text (Ok u) k t old new key is h =
-    ap (λ es. places_json (seen es)) h ∙ places_put key (Text t) old ∙ ap (λ d. put key d (places_json (seen old))) (text_seen t) ∙ ap (λ n. put n (string t) (places_json (seen old))) is
-puts_text (Err e) k t old new key is h = h
+pub node_seen : (p : Part) → place_data (Node p) ≡ part_data p
+node_seen p = ap place_data (sym (rolls-Node p)) ∙ fold-roll-PlaceValue Members Data Data Items body_step place_step part_step row_step (PlaceValue-F.Node p)

@@ -1,5 +1,10 @@
-pub mod Met
-pub mod Renders
-pub mod Places
+pub mod Again
+pub mod Answers
 pub mod Plain
+pub mod Prints
+pub mod Renders
+pub mod Scope
 pub mod Shown
+pub mod Taken
+pub mod Tracked
+pub mod Values

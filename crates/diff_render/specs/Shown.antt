@@ -1,11 +1,14 @@
--- What the evaluation of a place answers, and what the place shows.
-use Rattle.std.specs.Prelude.{◌≡◌, ℕ, List, Result, Ok, Err}
+-- What the evaluation of a place answers, and what a place shows that has nothing inside.
+use Rattle.std.specs.Prelude.{◌≡◌, ℕ, List, [], Result, Ok, Err}
 use Rattle.text_core.specs.Escape.{escape_text}
 use Rattle.value_core.specs.Value.{Value}
 use Rattle.value_core.specs.View.{view}
 use Rattle.value_core.specs.declared.raise.Raise.{Raise}
 use Rattle.value_core.specs.declared.value.Value.{Value as Stored}
-use Rattle.doc_model.specs.Evaluation.{Res, on_res, printed}
+use Rattle.ast_core.specs.Syntax.{Place, put, attribute, spread}
+use Rattle.doc_model.specs.Environment.{Env}
+use Rattle.doc_model.specs.Evaluation.{Res, then_do, on_res, eval_expr, printed}
+use Rattle.doc_model.specs.Printing.{print_attribute, print_spread}
 use Rattle.diff_render.specs.declared.fault.RenderFault.{RenderFault}
 use Rattle.diff_render.specs.declared.fault.RenderFault.TheVariants as fault
 
@@ -19,8 +22,9 @@ Evaluates (Err fault.OutOfMemory) r = Unit {0}
 abbrev pub printed_html : Value → Res (List ℕ)
 printed_html v = on_res escape_text (printed v)
 
--- an answer: what is shown, or a raise where the place raises
-abbrev pub ShowsPlace : Result (List ℕ) RenderFault → Res (List ℕ) → Type 0
-ShowsPlace (Ok t) r = r ≡ Ok t
-ShowsPlace (Err fault.Raised) r = (e : Raise) × (r ≡ Err e)
-ShowsPlace (Err fault.OutOfMemory) r = Unit {0}
+-- what a place shows
+abbrev pub shown_at : Env → Place → Res (List ℕ)
+shown_at env (put e) = on_res escape_text (then_do (eval_expr env e) printed)
+shown_at env (attribute n e) = then_do (eval_expr env e) (print_attribute n)
+shown_at env (spread e) = then_do (eval_expr env e) print_spread
+shown_at env p = Ok []

@@ -1,15 +1,21 @@
 //! The renderer: the whole tree of a page's first rendering, and the lean diff of each later one.
 #![tactic(auto)]
 
+mod choice;
 mod fault;
-mod full;
+mod lean;
 mod place;
 mod plain;
+mod print;
 mod render;
-#[cfg(test)]
-mod tests;
+mod rows;
+mod scope;
+mod values;
+mod whole;
 
+pub use choice::Choice;
 pub use fault::RenderFault;
-pub use full::page_text;
-pub use plain::render_plain;
+pub use plain::{page_text, render_plain};
+pub use print::{Print, Prints};
+pub(crate) use render::LEVELS;
 pub use render::{first, next};

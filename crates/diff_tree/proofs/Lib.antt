@@ -4,9 +4,15 @@ pub mod Levels
 pub mod Batches
 pub mod Looks
 pub mod Order
-mod Statics
+pub mod Keys
+pub mod Whole
+pub mod Members
+pub mod Written
 pub mod Stored
 pub mod ReadsBack
-mod Written
+pub mod Spelled
 pub mod Taken
-mod Spelled
+pub mod Listed
+pub mod Components
+pub mod Shapes
+pub mod Pages

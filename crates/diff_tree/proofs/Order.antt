@@ -9,6 +9,7 @@ use Rattle.serde_json.specs.Find.{get_member}
 use Rattle.text_core.specs.declared.by_key.KeyValue.{KeyValue}
 use Rattle.text_core.specs.Keyed.{is_before, ascend, keys, Ascending, entry, on_value}
 use Rattle.text_core.proofs.Keyed.{order, both_of, below_trans}
+use Rattle.diff_tree.specs.Plain.{names}
 
 pub both_to : (a b : Bool) → a ≡ true → b ≡ true → (a && b) ≡ true
 both_to a b h k = rw (h, k) refl
@@ -75,10 +76,6 @@ pub goes_last : {T : Type 0} (es : List (KeyValue T)) (k : List ℕ) (v : T) (re
 goes_last es k v rest h = ascend_front (keys (es ++ entry k v ∷ [])) rest (goes_on es k v rest h)
 
 -- ---- members
-
-abbrev pub names : Members → List (List ℕ)
-names no_members = []
-names (member k d ms) = k ∷ names ms
 
 -- members before others
 abbrev pub join : Members → Members → Members

@@ -1,5 +1,5 @@
 -- The compact text of a value reads as that value: a law of the definitions alone.
-use Rattle.std.proofs.Common.{◌≡◌, ℕ, ◌≤◌, pos, negsuc, List, [], Some, option_map, option_and_then, Greater, nat_cmp, refl, sym, ap, ◌∙◌, arith, append-nil}
+use Rattle.std.proofs.Common.{◌≡◌, ℕ, ◌≤◌, pos, negsuc, List, [], Some, option_map, option_and_then, Greater, nat_cmp, true, refl, sym, ap, ◌∙◌, arith, append-nil}
 use Rattle.std.specs.Prelude.{⊤}
 use Rattle.std.specs.Cmp.Lexicographic.{slice_cmp}
 use Rattle.json.specs.Lex.{tokens}
@@ -14,7 +14,8 @@ use Rattle.serde_json.specs.Read.{read, number_of, of_json, of_items, of_members
 use Rattle.serde_json.specs.Written.{number_text, outline, items_outline, members_outline, compact_text}
 use Rattle.serde_json.proofs.Numbers.{number_of-decimal, number_of-negative}
 use Rattle.serde_json.proofs.Texts.{print-outline}
-use Rattle.diff_tree.proofs.Stored.{IsStored, ItemsAreStored, MembersAreStored, IsWhole, IsAfter}
+use Rattle.diff_tree.specs.Plain.{is_plain}
+use Rattle.diff_tree.proofs.Stored.{IsStored, ItemsAreStored, MembersAreStored, IsWhole, IsAfter, plain_stored}
 
 number-IsWhole : (n : Num) → IsWhole n → IsNumber (number_text n)
 number-IsWhole (unsigned n) h = IsNumber-decimal n h
@@ -120,8 +121,9 @@ mutual
   members_depth-outline (member k d ms) = rw (depth-outline d, members_depth-outline ms) refl
 
 -- the law
-pub read-compact_text : (d : Data) → IsStored d → depth d ≤ max_depth → read (compact_text d) ≡ Some d
-read-compact_text d h shallow =
+pub read-compact_text : (d : Data) → is_plain d ≡ true → depth d ≤ max_depth → read (compact_text d) ≡ Some d
+read-compact_text d plain shallow =
+    let h : IsStored d = plain_stored d plain in
     let j = outline d in
     let same : tokens (compact_text d) ≡ tree.json_tokens j = ap tokens (sym (print-outline d)) ∙ tokens-print (tree.json_tokens j) (ArePrintable-json_tokens j (numbers d h)) in
     let fits : tree.depth j ≤ max_depth = rw (depth-outline d) shallow in

@@ -1,29 +1,23 @@
 -- Nodes read from JSON, member by member.
-use Rattle.std.proofs.Common.{◌≡◌, ◌≢◌, ℕ, zero, suc, ◌+◌, ◌<◌, ◌≤◌, ◌==◌, List, [], ◌∷◌, ◌++◌, length, get_or, drop, map, String, string_bytes, Global, Bool, true, false, ◌&&◌, ◌||◌, if◌then◌else◌, Option, Some, None, option_map, is_some, refl, sym, ap, ◌∙◌, subst, arith, nat_cmp, codes, decimal, ◌⊎◌, inl, inr}
-use Rattle.std.specs.List.Sorted.{IsStrictlySortedBy}
-use Rattle.std.specs.Ordering.{is_lt}
+use Rattle.std.proofs.Common.{◌≡◌, ◌≢◌, ℕ, zero, suc, ◌+◌, ◌<◌, ◌≤◌, ◌==◌, List, [], ◌∷◌, ◌++◌, length, get_or, drop, String, string_bytes, Global, Bool, true, false, ◌&&◌, ◌||◌, Option, Some, None, option_map, is_some, refl, sym, ap, ◌∙◌, subst, arith, codes, decimal, ◌⊎◌, inl, inr}
 use Rattle.std.specs.Str.{bytes_eq}
-use Rattle.std.specs.Cmp.Lexicographic.{slice_cmp}
 use Rattle.std.proofs.Math.ListN.{drop_of_length-le}
 use Rattle.std.proofs.lemmas.List.{map-append}
 use Rattle.std.proofs.lemmas.Bool.Decides.{eqb_tells}
-use Rattle.serde_json.specs.Data.{Data, null, boolean, number, string, array, object, Items, no_items, item, Members, no_members, member, put}
+use Rattle.serde_json.specs.Data.{Data, null, boolean, number, string, array, object, Items, no_items, item, Members, no_members, member}
 use Rattle.serde_json.specs.Events.{items_len, members_len}
-use Rattle.serde_json.specs.Find.{get, get_member, as_str, as_array, as_object}
+use Rattle.serde_json.specs.Find.{get, as_str, as_array, as_object}
 use Rattle.serde_json.specs.View.{view, items_view, members_view}
-use Rattle.serde_json.specs.declared.value.Value as json
 use Rattle.text_core.specs.declared.by_key.KeyValue.{KeyValue}
 use Rattle.text_core.specs.Keyed.{ascend, keys, entry, on_value}
 use Rattle.diff_tree.specs.Spelling.{texts_json}
 use Rattle.diff_tree.specs.Parts.{place_data, places_json, with_statics, seen}
-use Rattle.diff_tree.specs.Grammar.{are_texts, count_of, has_places, are_statics, are_places, is_place, is_value, surround, Completes}
+use Rattle.diff_tree.specs.Grammar.{are_texts, count_of, has_places, are_statics, are_places, is_place, is_value, surround, without, with_member}
 use Rattle.diff_tree.specs.declared.part.PlaceValue.{PlaceValue}
-use Rattle.diff_tree.proofs.Order.{cons_at, names, join, join-none, join-join, chain, chain-snoc}
-use Rattle.diff_tree.proofs.Statics.{without_statics, put_back, none_out}
+use Rattle.diff_tree.proofs.Keys.{Json}
+use Rattle.diff_tree.proofs.Order.{cons_at, join, join-none, join-join, chain, chain-snoc}
+use Rattle.diff_tree.proofs.Members.{keeps_if, drops_if}
 use Rattle.diff_tree.proofs.Written.{seen_in_order}
-
-abbrev Json : Type 0
-Json = json.Value
 
 -- ---- texts
 
@@ -127,32 +121,13 @@ lacks (suc n) k d h none = by (eqb_tells k n) (λ g. lacks n k d g none)
 
 -- ---- places
 
--- the keys of members
-abbrev pub member_keys : List (String Global × Json) → List (List ℕ)
-member_keys [] = []
-member_keys (m ∷ ms) = string_bytes m.0 ∷ member_keys ms
-
--- a JSON object's keys are in order
-pub sorted_ascends : (ms : List (String Global × Json)) → IsStrictlySortedBy (λ (x y : String Global). slice_cmp nat_cmp (string_bytes x) (string_bytes y)) (map (λ m. m.0) ms) → ascend (member_keys ms) ≡ true
-unfolding IsStrictlySortedBy
-sorted_ascends [] h = refl
-sorted_ascends (m ∷ []) h = refl
-sorted_ascends (m ∷ n ∷ ms) h = rw (ap is_lt h.0.0) (sorted_ascends (n ∷ ms) h.1)
-
-pub names-view : (ms : List (String Global × Json)) → names (members_view ms) ≡ member_keys ms
-names-view [] = refl
-names-view (m ∷ ms) = ap (λ l. string_bytes m.0 ∷ l) (names-view ms)
-
-without_other : (b : Bool) (k : List ℕ) (d : Data) (ms : Members) → b ≡ false → (if b then without_statics ms else member k d (without_statics ms)) ≡ member k d (without_statics ms)
-without_other b k d ms h = rw h refl
-
-without_same : (b : Bool) (k : List ℕ) (d : Data) (ms : Members) → b ≡ true → (if b then without_statics ms else member k d (without_statics ms)) ≡ without_statics ms
-without_same b k d ms h = rw h refl
+abbrev s_key : List ℕ
+s_key = codes "s"
 
 -- `s` is passed over
 pub passes_on : (k : String Global) (j : Json) (js : List (String Global × Json)) (front : Members) (whole : Members) → bytes_eq (string_bytes k) (codes "s") ≡ true
-    → join front (without_statics (members_view ((k, j) ∷ js))) ≡ whole → join front (without_statics (members_view js)) ≡ whole
-passes_on k j js front whole h so_far = ap (join front) (sym (without_same (bytes_eq (string_bytes k) (codes "s")) (string_bytes k) (view j) (members_view js) h)) ∙ so_far
+    → join front (without s_key (members_view ((k, j) ∷ js))) ≡ whole → join front (without s_key (members_view js)) ≡ whole
+passes_on k j js front whole h so_far = ap (join front) (sym (drops_if (bytes_eq (string_bytes k) s_key) s_key (string_bytes k) (view j) (members_view js) h)) ∙ so_far
 
 pub passes_fit : (k : String Global) (j : Json) (js : List (String Global × Json)) (whole : Bool) → bytes_eq (string_bytes k) (codes "s") ≡ true
     → are_places (members_view ((k, j) ∷ js)) ≡ whole → are_places (members_view js) ≡ whole
@@ -162,15 +137,15 @@ passes_fit k j js whole h so_far =
 -- one more place was read
 pub places_on : (k : String Global) (j : Json) (js : List (String Global × Json)) (es : List (KeyValue PlaceValue)) (name : List ℕ) (v : PlaceValue) (whole : Members)
     → bytes_eq (string_bytes k) (codes "s") ≡ false → name ≡ string_bytes k → place_data v ≡ view j
-    → join (chain (seen es)) (without_statics (members_view ((k, j) ∷ js))) ≡ whole → join (chain (seen (es ++ entry name v ∷ []))) (without_statics (members_view js)) ≡ whole
+    → join (chain (seen es)) (without s_key (members_view ((k, j) ∷ js))) ≡ whole → join (chain (seen (es ++ entry name v ∷ []))) (without s_key (members_view js)) ≡ whole
 places_on k j js es name v whole h same read so_far =
-    let rest : Members = without_statics (members_view js) in
+    let rest : Members = without s_key (members_view js) in
     ap (λ l. join (chain l) rest) (map-append (on_value place_data) es (entry name v ∷ []))
     ∙ ap (λ l. join l rest) (chain-snoc (seen es) (entry name (place_data v)))
     ∙ join-join (chain (seen es)) (member name (place_data v) no_members) rest
     ∙ ap (λ n. join (chain (seen es)) (member n (place_data v) rest)) same
     ∙ ap (λ d. join (chain (seen es)) (member (string_bytes k) d rest)) read
-    ∙ ap (join (chain (seen es))) (sym (without_other (bytes_eq (string_bytes k) (codes "s")) (string_bytes k) (view j) (members_view js) h)) ∙ so_far
+    ∙ ap (join (chain (seen es))) (sym (keeps_if (bytes_eq (string_bytes k) s_key) s_key (string_bytes k) (view j) (members_view js) (without s_key (members_view js)) h refl)) ∙ so_far
 
 or_true : (b : Bool) → (b || true) ≡ true
 or_true true = refl
@@ -188,28 +163,19 @@ places_not k j js whole h none so_far =
     let p : Bool = is_place (string_bytes k) && is_value (view j) in
     sym so_far ∙ ap (λ s. (s || p) && are_places (members_view js)) h ∙ ap (λ b. b && are_places (members_view js)) none
 
--- with its statics the node is whole
-whole_node : (ms : Members) (st : Option (List (List ℕ))) (places : Members) → ascend (names ms) ≡ true → option_map (λ ts. array (texts_json ts)) st ≡ get_member (codes "s") ms
-    → places ≡ without_statics ms → with_statics st places ≡ ms
-whole_node ms None places in_order found rest = rest ∙ none_out ms in_order (sym found)
-whole_node ms (Some ts) places in_order found rest =
-    ap (put (codes "s") (array (texts_json ts))) rest ∙ put_back ms (array (texts_json ts)) in_order (sym found)
-
 none_behind : (xs : List (List ℕ)) → xs ++ [] ≡ xs
 none_behind [] = refl
 none_behind (x ∷ xs) = ap (λ l. x ∷ l) (none_behind xs)
 
 -- all places were read
-pub places_all : (es : List (KeyValue PlaceValue)) (ms : List (String Global × Json)) → ascend (keys es ++ []) ≡ true → ascend (member_keys ms) ≡ true
-    → join (chain (seen es)) no_members ≡ without_statics (members_view ms) → Completes es (members_view ms)
-places_all es ms in_order ordered so_far st found =
+pub places_all : (es : List (KeyValue PlaceValue)) (ms : Members) → ascend (keys es ++ []) ≡ true → join (chain (seen es)) no_members ≡ ms → places_json (seen es) ≡ ms
+places_all es ms in_order so_far =
     let keys_are : ascend (keys es) ≡ true = subst (λ l. ascend l ≡ true) (none_behind (keys es)) in_order in
-    let names_are : ascend (names (members_view ms)) ≡ true = ap ascend (names-view ms) ∙ ordered in
-    whole_node (members_view ms) st (places_json (seen es)) names_are found (seen_in_order es keys_are ∙ sym (join-none (chain (seen es))) ∙ so_far)
+    seen_in_order es keys_are ∙ sym (join-none (chain (seen es))) ∙ so_far
 
 -- ---- statics
 
-is_array : (d : Data) (ds : Items) → Some ds ≡ as_array d → d ≡ array ds
+pub is_array : (d : Data) (ds : Items) → Some ds ≡ as_array d → d ≡ array ds
 is_array null ds h = cc
 is_array (boolean b) ds h = cc
 is_array (number n) ds h = cc
@@ -225,3 +191,8 @@ around d whole js is texts =
 
 pub texts_are : (d : Data) (js : List Json) (ts : List (List ℕ)) → Some (items_view js) ≡ as_array d → texts_json ts ≡ items_view js → array (texts_json ts) ≡ d
 texts_are d js ts is same = ap array same ∙ sym (is_array d (items_view js) is)
+
+-- statics stand under `s`
+pub statics_under : (st : Option (List (List ℕ))) (o : Option Data) (ms : Members) → option_map (λ ts. array (texts_json ts)) st ≡ o → with_statics st ms ≡ with_member s_key o ms
+statics_under None o ms h = ap (λ x. with_member s_key x ms) h
+statics_under (Some ts) o ms h = ap (λ x. with_member s_key x ms) h

@@ -1,17 +1,24 @@
 -- Nodes written as JSON, place by place.
-use Rattle.std.proofs.Common.{◌≡◌, ℕ, ◌+◌, ◌<◌, ◌≤◌, List, [], ◌∷◌, ◌++◌, length, get_or, drop, map, true, refl, sym, ap, ◌∙◌, subst}
+use Rattle.std.proofs.Common.{◌≡◌, ℕ, ◌+◌, ◌<◌, ◌≤◌, List, [], ◌∷◌, ◌++◌, length, get_or, drop, map, true, refl, sym, ap, ◌∙◌, subst, Ordering, Less, Equal, Greater, nat_cmp, codes, decimal}
+use Rattle.std.specs.Ordering.{match_ordering}
+use Rattle.std.specs.Cmp.Lexicographic.{slice_cmp}
 use Rattle.std.proofs.Math.ListN.{drop_of_length-le}
-use Rattle.serde_json.specs.Data.{Data, string, Members, no_members, member, put}
+use Rattle.serde_json.specs.Data.{Data, string, array, object, Items, item, Members, no_members, member, put}
 use Rattle.serde_json.specs.View.{items_of}
 use Rattle.text_core.specs.declared.by_key.KeyValue.{KeyValue}
 use Rattle.text_core.specs.Keyed.{is_before, ascend, keys}
 use Rattle.text_core.proofs.Keyed.{both_of}
-use Rattle.diff_tree.specs.Spelling.{texts_json}
-use Rattle.diff_tree.specs.Parts.{part_data, place_data, part_step, place_step, places_json, seen, node_data}
+use Rattle.diff_tree.specs.Spelling.{texts_json, events_json, with_components}
+use Rattle.diff_tree.specs.Plain.{names}
+use Rattle.diff_tree.specs.Parts.{part_data, place_data, body_members, part_step, body_step, place_step, row_step, row_data, with_statics, places_json, seen, insert_data, inserts_data, push_data, pushed_of, rows_data, components_data}
+use Rattle.diff_tree.specs.declared.diff.ComponentPart.{ComponentPart}
+use Rattle.diff_tree.specs.declared.push.Push.{Push}
+use Rattle.diff_tree.specs.declared.stream.StreamInsert.{StreamInsert}
 use Rattle.diff_tree.specs.declared.part.Part.{Part, out-Part}
 use Rattle.diff_tree.specs.declared.part.PlaceValue.{PlaceValue}
-use Rattle.diff_tree.specs.declared.part.PlaceValue.TheFolds.{fold_out-Part}
-use Rattle.diff_tree.proofs.Order.{cons_at, names, join, join-none, join-join, put_last, names_last, put_first, chain, names-chain, keys-on_value}
+use Rattle.diff_tree.specs.declared.part.Row.{Row, out-Row}
+use Rattle.diff_tree.specs.declared.part.PartBody.TheFolds.{fold_out-Part, fold_out-Row}
+use Rattle.diff_tree.proofs.Order.{cons_at, join, join-none, join-join, put_last, names_last, put_first, chain, names-chain, keys-on_value}
 
 pub texts_json-map : (ts : List (List ℕ)) → items_of (map string ts) ≡ texts_json ts
 texts_json-map [] = refl
@@ -47,5 +54,45 @@ puts_all es i ms h in_order so_far =
     sym (join-none ms) ∙ ap (λ l. join ms (chain (seen l))) (sym (drop_of_length-le es h)) ∙ so_far ∙ sym (seen_in_order es in_order)
 
 -- a node, opened
-pub part_data-out : (p : Part) → part_data p ≡ node_data (out-Part p).statics (out-Part p).places
-part_data-out p = fold_out-Part Data Data place_step part_step p
+pub part_data-out : (p : Part) → part_data p ≡ object (with_statics (out-Part p).statics (body_members (out-Part p).body))
+part_data-out p = fold_out-Part Members Data Data Items body_step place_step part_step row_step p
+
+-- ---- lists
+
+pub inserts_data-map : (is : List StreamInsert) → items_of (map insert_data is) ≡ inserts_data is
+inserts_data-map [] = refl
+inserts_data-map (i ∷ is) = ap (item (insert_data i)) (inserts_data-map is)
+
+pub events_json-map : (es : List Push) → items_of (map push_data es) ≡ events_json (map pushed_of es)
+events_json-map [] = refl
+events_json-map (e ∷ es) = ap (item (push_data e)) (events_json-map es)
+
+-- a row as it is written
+abbrev pub row_array : Row → Data
+row_array r = array (row_data r)
+
+pub rows-map : (rs : List Row) → items_of (map row_array rs) ≡ rows_data rs
+rows-map [] = refl
+rows-map (r ∷ rs) = ap (item (row_array r)) (rows-map rs)
+
+-- a row, opened
+pub row_data-out : (r : Row) → row_data r ≡ items_of (map place_data (out-Row r).values)
+row_data-out r = fold_out-Row Members Data Data Items body_step place_step part_step row_step r
+
+-- ---- components
+
+stand_in : (o : Ordering) (k l : List ℕ) (d e : Data) (cs more ms : Members)
+    → with_components (match_ordering o (member k d (member l e cs)) (member l d cs) (member l e more)) ms
+    ≡ put (codes "c") (object (match_ordering o (member k d (member l e cs)) (member l d cs) (member l e more))) ms
+stand_in Less k l d e cs more ms = refl
+stand_in Equal k l d e cs more ms = refl
+stand_in Greater k l d e cs more ms = refl
+
+put_stands : (k : List ℕ) (d : Data) (cs ms : Members) → with_components (put k d cs) ms ≡ put (codes "c") (object (put k d cs)) ms
+put_stands k d no_members ms = refl
+put_stands k d (member l e cs) ms = stand_in (slice_cmp nat_cmp k l) k l d e cs (put k d cs) ms
+
+-- where there are components they stand under `c`
+pub components_stand : (cs : List ComponentPart) (ms : Members) → (cs ≡ [] → ⊥) → with_components (components_data cs) ms ≡ put (codes "c") (object (components_data cs)) ms
+components_stand [] ms some = absurd (some refl)
+components_stand (c ∷ cs) ms some = put_stands (decimal c.number) (part_data c.part) (components_data cs) ms

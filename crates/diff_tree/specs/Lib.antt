@@ -4,6 +4,7 @@ pub mod Client
 pub mod Mark
 pub mod Spelling
 pub mod Frame
+pub mod Plain
 pub mod Parts
 pub mod Laws
 pub mod Grammar

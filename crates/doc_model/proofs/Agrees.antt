@@ -22,7 +22,7 @@ use Rattle.doc_model.proofs.Names.{Agree, agree_left, agree_right, agree_cast, a
 use Rattle.doc_model.proofs.Calling.{call_agrees_on, live_agrees_on}
 
 -- the chosen clause's names agree
-agree_chosen : (v : Value) (cs : Clauses) (a b : Env) → Agree a b (free_clauses cs) → On (λ c. Agree (bind c.variables a) (bind c.variables b) (free_nodes c.nodes)) (chosen v cs)
+pub agree_chosen : (v : Value) (cs : Clauses) (a b : Env) → Agree a b (free_clauses cs) → On (λ c. Agree (bind c.variables a) (bind c.variables b) (free_nodes c.nodes)) (chosen v cs)
 agree_chosen v no_clauses a b k = tt
 agree_chosen v (clause p ns cs) a b k = by_binding (agree_chosen v cs a b (agree_right a b (without (bound p) (free_nodes ns)) (free_clauses cs) k)) (binding p v) (binds p v)
   where

@@ -23,10 +23,10 @@ use Rattle.doc_model.specs.Evaluation.{Res}
 use Rattle.value_core.specs.Nesting.{depth_of}
 use Rattle.doc_model.specs.Calls.{has_slot}
 use Rattle.doc_model.specs.Effects.{Waiting, sent, inbox_limit, storable, sendable, position_of, limit_of, acting, is_kept_name, in_stream, batch_insert, insert_of, Applied, apply_effect}
-use Rattle.wire_v2.specs.declared.push.Push.{Push}
+use Rattle.diff_tree.specs.declared.push.Push.{Push}
 use Rattle.effects_apply.specs.declared.rest.Rest.{Rest}
 use Rattle.effects_apply.specs.Applied.{action_view, rest_view, CountsFree, applied_view, Becomes}
-use Rattle.wire_v2.specs.FrameData.{pushed_of}
+use Rattle.diff_tree.specs.Parts.{pushed_of}
 
 -- what a good result holds
 of_ok : {A E : Type 0} (r : Result A E) → is_ok r ≡ true → (a : A) × (r ≡ Ok a)

@@ -9,8 +9,8 @@ use Rattle.value_core.specs.declared.value.Value.{Value}
 use Rattle.view_api.specs.Effect.{Effect}
 use Rattle.machine_api.specs.declared.machine.Action as asked
 use Rattle.machine_api.specs.declared.machine.Action.TheVariants.{Subscribe, Unsubscribe, Publish}
-use Rattle.wire_v2.specs.declared.push.Push.{Push}
-use Rattle.wire_v2.specs.FrameData.{pushed_of}
+use Rattle.diff_tree.specs.declared.push.Push.{Push}
+use Rattle.diff_tree.specs.Parts.{pushed_of}
 use Rattle.doc_model.specs.Environment.{Stream}
 use Rattle.doc_model.specs.Evaluation.{Res}
 use Rattle.doc_model.specs.Effects as model

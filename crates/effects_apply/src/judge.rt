@@ -9,11 +9,11 @@ ghost use Rattle.doc_model.specs.Effects.{storable, sendable, position_of, limit
 ghost use Rattle.effects_apply.specs.Applied.{GivesJson, GivesPush};
 
 use crate::fault::EffectFault;
+use diff_tree::Push;
 use serde_json::Value as Json;
 use std::alloc::Global;
 use text_core::{Bytes, OutOfMemory, Text};
 use value_core::{Assigns, ToJsonFault, Value, Values, depth, to_json};
-use wire_v2::Push;
 
 // How many levels a value may have that is stored or sent.
 const MOST_LEVELS: u32 = 100;
@@ -113,7 +113,10 @@ pub(crate) fn sendable_push(alloc: Global, name: Text, value: &Value) -> Result<
     ensures { GivesPush result name (sendable (view value.now)) }
 {
     let payload = sendable_json(alloc, value)?;
-    Ok(Push { name, payload })
+    match Push::new(name, payload) {
+        Some(push) => Ok(push),
+        None => Err(EffectFault::Raised),
+    }
 }
 
 /// A JSON value as text with no space.

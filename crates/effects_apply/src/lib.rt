@@ -5,8 +5,6 @@ mod apply;
 mod fault;
 mod judge;
 mod rest;
-#[cfg(test)]
-mod tests;
 
 pub use apply::apply_effects;
 pub use fault::EffectFault;

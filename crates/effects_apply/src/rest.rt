@@ -1,11 +1,11 @@
 //! What a message has done so far beside the assigns.
 ghost use Rattle.std.specs.Prelude.{◌≡◌, []};
 
+use diff_tree::Pushes;
 use machine_api::Actions;
 use std::alloc::Global;
 use text_core::Seq;
 use value_core::Values;
-use wire_v2::Pushes;
 
 /// What a message has done so far beside the assigns.
 #[derive(Debug, Drop)]

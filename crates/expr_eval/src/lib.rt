@@ -12,12 +12,10 @@ mod maps;
 mod operators;
 mod right_chain;
 mod scope;
-#[cfg(test)]
-mod tests;
 mod text;
 mod variables;
 
 pub use evaluate::{eval, eval_over};
 pub use fault::EvalFault;
 pub use judge::is_true;
-pub use variables::{Bindings, Variables};
+pub use variables::{Bindings, Variables, value_in};

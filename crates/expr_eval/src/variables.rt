@@ -46,7 +46,7 @@ impl Variables {
     {
         let scopes = self.scopes.as_slice();
         'scopes: for i in (0..scopes.len()).rev() {
-            if let Some(value) = first_at(scopes[i].as_slice(), name) {
+            if let Some(value) = value_in(&scopes[i], name) {
                 return Some(value);
             }
         }
@@ -68,6 +68,13 @@ impl Variables {
         self.scopes.pop()
     }
 
+    /// What each scope binds, the innermost last.
+    pub fn scopes(&self) -> &[Bindings]
+        ensures { result.now ≡ self.now.scopes }
+    {
+        self.scopes.as_slice()
+    }
+
     /// How many scopes there are.
     pub fn depth(&self) -> usize
         ensures { result ≡ length self.now.scopes }
@@ -76,11 +83,11 @@ impl Variables {
     }
 }
 
-// The first value of a name.
-fn first_at<'a>(bindings: &'a [KeyValue<Value>], name: &str) -> Option<&'a Value>
+/// The value of a name among bindings, where it stands: the first holds.
+pub fn value_in<'a>(bindings: &'a Bindings, name: &str) -> Option<&'a Value>
     ensures { option_copied result ≡ keyed_lookup name.now bindings.now }
 {
-    for binding in bindings {
+    for binding in bindings.as_slice() {
         if name == binding.key.as_str() {
             return Some(&binding.value);
         }

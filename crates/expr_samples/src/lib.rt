@@ -3,6 +3,14 @@
 #![tactic(auto)]
 
 #[cfg(test)]
+mod evaluation;
+#[cfg(test)]
+mod generators;
+#[cfg(test)]
 mod patterns;
 #[cfg(test)]
-mod tests;
+mod reading;
+#[cfg(test)]
+mod texts;
+#[cfg(test)]
+mod tokens;

@@ -3,8 +3,6 @@
 
 mod byte;
 mod lexer;
-#[cfg(test)]
-mod lexer_tests;
 mod module;
 mod number;
 mod opening;

@@ -13,3 +13,5 @@ mod printed;
 mod tags;
 #[cfg(test)]
 mod template;
+#[cfg(test)]
+mod tokens;

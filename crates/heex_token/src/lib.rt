@@ -8,8 +8,6 @@ mod reader;
 mod region;
 mod scan;
 mod tag;
-#[cfg(test)]
-mod tests;
 mod token;
 mod value;
 mod void;

@@ -1,5 +1,5 @@
 //! The listener over a TCP listener. It tells nothing of its answers.
-ghost use Rattle.std.specs.Prelude.{◌≡◌, is_some, false, Option};
+ghost use Rattle.std.specs.Prelude.{◌≡◌, is_some, false, None, Option};
 
 use crate::link::{Accepted, Listener};
 use crate::web::{WebLink, Welcome, greet};
@@ -36,8 +36,10 @@ impl<R: Net<Listener = TcpListener, Stream = TcpStream> + Clock + Clone + Drop> 
         }
     }
 
-    /// The port that is bound.
-    pub fn port(&self) -> Option<u16> {
+    /// The port that is bound; none where the address was refused.
+    pub fn port(&self) -> Option<u16>
+        ensures { is_some self.now.listener ≡ false → result ≡ None }
+    {
         let listener = self.listener.as_ref()?;
         let address = listener.local_addr().ok()?;
         Some(address.port())

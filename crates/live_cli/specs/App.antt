@@ -16,4 +16,4 @@ home_rows = rows_or_none (table_of (codes "/" ∷ []))
 
 -- the bundle's template, and the view at `/` whose handlers are the manifest's steps
 unfoldable pub app_of : Bundle → App ScriptViews
-app_of bundle = record { compiled = bundle.compiled; routes = home_rows; views = script_of bundle.mount bundle.events; flat = bundle.flat }
+app_of bundle = record { compiled = bundle.compiled; routes = home_rows; views = script_of bundle.mount bundle.events; plain = bundle.plain }

@@ -1,5 +1,5 @@
 //! The real source, sink and folder. They tell nothing of what they hold, and count what fails.
-ghost use Rattle.std.specs.Prelude.{None, ◌≤◌, length};
+ghost use Rattle.std.specs.Prelude.{◌≡◌, None, ◌≤◌, length};
 
 use std::alloc::{AllocError, Global};
 use std::fs;
@@ -17,8 +17,10 @@ pub struct RealSource<T: Read + Drop> {
 }
 
 impl<T: Read + Drop> RealSource<T> {
-    /// The source that reads from `inner`.
-    pub fn new(inner: T) -> RealSource<T> {
+    /// The source that reads from `inner`, of which nothing failed yet.
+    pub fn new(inner: T) -> RealSource<T>
+        ensures { result.count ≡ 0 }
+    {
         RealSource { inner, count: 0 }
     }
 }
@@ -52,8 +54,10 @@ pub struct RealSink<T: Write + Drop> {
 }
 
 impl<T: Write + Drop> RealSink<T> {
-    /// The sink that writes to `inner`.
-    pub fn new(inner: T) -> RealSink<T> {
+    /// The sink that writes to `inner`, where nothing failed yet.
+    pub fn new(inner: T) -> RealSink<T>
+        ensures { result.count ≡ 0 }
+    {
         RealSink { inner, count: 0 }
     }
 }
@@ -106,8 +110,10 @@ pub struct RealFolder<R: Files + AllocGlobal + Clone + Drop> {
 }
 
 impl<R: Files + AllocGlobal + Clone + Drop> RealFolder<R> {
-    /// The folder of that path.
-    pub fn new(rt: R, dir: Text) -> RealFolder<R> {
+    /// The folder of that path, where nothing failed yet.
+    pub fn new(rt: R, dir: Text) -> RealFolder<R>
+        ensures { result.count ≡ 0 }
+    {
         let listed = ByKey::new(rt.alloc());
         RealFolder {
             rt,

@@ -3,6 +3,8 @@
 
 mod adapters;
 mod app;
+#[cfg(test)]
+mod branch_tests;
 mod command;
 #[cfg(test)]
 mod event_tests;

@@ -10,7 +10,6 @@ use Rattle.view_api.specs.Meaning.{HandlerMeaning}
 use Rattle.view_api.specs.declared.views.ViewFault.{ViewFault}
 use Rattle.view_api.specs.declared.views.ViewFault.TheVariants as handler
 use Rattle.view_api.specs.View.{Means}
-use Rattle.diff_render.specs.Met.{items_of, places_of}
 use Rattle.diff_render.specs.Renders.{Renders}
 use Rattle.diff_render.specs.declared.fault.RenderFault.{RenderFault}
 use Rattle.diff_render.specs.declared.fault.RenderFault.TheVariants as render
@@ -27,7 +26,7 @@ use Rattle.live_page.specs.declared.app.App.{App}
 use Rattle.live_page.specs.World.{world_of}
 use Rattle.live_page.specs.Page.{Joins}
 use Rattle.live_page.specs.Fault.{of_view, of_render, of_effect}
-use Rattle.live_page.proofs.Rendered.{rendered_is, outcome_of}
+use Rattle.live_page.proofs.Rendered.{rendered_is, outcome_of, met_of}
 use Rattle.live_page.proofs.Turned.{raises_page}
 
 -- the assigns and streams that handlers leave, and the rest of the process
@@ -57,7 +56,7 @@ module _ {V : Type 0} (meaning : V → HandlerMeaning) (app : App V) (route : Ro
   -- after the effects of both handlers
   pub joins : (es fs : List Effect) (as1 as2 : Assigns) (st1 st2 : List ℕ → Stream) (r1 r2 : Rest) → first_asked ≡ Some es → apply_effects es (applied no_assigns empty_stream r0) ≡ Ok (applied as1 st1 r1)
       → then_asked as1 ≡ Some fs → apply_effects fs (applied as1 st1 r1) ≡ Ok (applied as2 st2 r2)
-      → joined_page (world_of meaning app) route j t r0 ≡ on_res (outcome_of meaning app route.view j t as2 r2) (items_of as2 (places_of app.compiled))
+      → joined_page (world_of meaning app) route j t r0 ≡ on_res (outcome_of meaning app route.view j t as2 r2) (met_of meaning app as2)
   joins es fs as1 as2 st1 st2 r1 r2 asked is asked_then is_then =
       mounts es (Ok (applied as1 st1 r1)) asked is
       ∙ ap (λ o. then_do (applied_or_raise o (applied as1 st1 r1)) shown) asked_then
@@ -95,7 +94,7 @@ module _ {V : Type 0} (meaning : V → HandlerMeaning) (app : App V) (route : Ro
 
   -- a first rendering that does not succeed
   pub first_fault : (w : List Waiting) (f : Items → Outcome) (as' : Assigns) (json : Items → Data) (rest : Beside) (fault : RenderFault)
-      → joined_page (world_of meaning app) route j t r0 ≡ on_res f (items_of as' (places_of app.compiled)) → Renders app.compiled as' json (Err fault)
+      → joined_page (world_of meaning app) route j t r0 ≡ on_res f (met_of meaning app as') → Renders app.compiled as' json (Err fault)
       → Joins app.compiled w (joined_page (world_of meaning app) route j t r0) (Err (of_render fault)) rest
   first_fault w f as' json rest render.Raised is (e, meets) = raises_page meaning app (joined_page (world_of meaning app) route j t r0) f as' e is meets
   first_fault w f as' json rest render.OutOfMemory is h = tt

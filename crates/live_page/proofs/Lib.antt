@@ -1,4 +1,3 @@
 pub mod Rendered
-pub mod Streams
 pub mod Turned
 pub mod Joined

@@ -5,8 +5,8 @@ use Rattle.value_core.specs.Value.{Assigns}
 use Rattle.slot_compile.specs.Template.{Source}
 use Rattle.diff_tree.specs.declared.part.Part.{Part}
 use Rattle.diff_tree.specs.Parts.{part_data}
-use Rattle.diff_render.specs.Met.{Meets}
-use Rattle.diff_render.specs.Renders.{HasSettled, present, whole_json, lean_json}
+use Rattle.diff_render.specs.Renders.{Meets, Recalls, whole_json, lean_json}
+use Rattle.diff_render.specs.Tracked.{HasSettled, present}
 use Rattle.effects_apply.specs.declared.rest.Rest.{Rest}
 use Rattle.effects_apply.specs.Applied.{rest_view, CountsFree}
 use Rattle.doc_model.specs.Effects.{Waiting}
@@ -33,11 +33,12 @@ page_of v as' j t met = record {
   topic = t;
 }
 
--- what is kept stands for this page, whose last rendering is settled
+-- what is kept stands for this page, whose last rendering is settled and remembered
 pub record StandsFor (c : Source) (kept : LivePage) (p : Page) : Type 0 where
   pub is : p ≡ page_of kept.view (present kept.assigns) kept.join_ref kept.topic p.met
   pub met : Meets c (present kept.assigns) (Ok p.met)
   pub settled : HasSettled kept.assigns (present kept.assigns)
+  pub remembered : Recalls c (present kept.assigns) kept.prints
 
 -- a rendering that is defined left this page and this rest, and what is sent of it has this JSON value
 pub record Leaves (c : Source) (w : List Waiting) (given : Res Outcome) (json : Items → Data) (kept : LivePage) (rest : Rest) (sent : Part) : Type 0 where

@@ -1,5 +1,5 @@
 //! What the processes of a bundle share.
-ghost use Rattle.slot_compile.specs.Template.{IsFlat};
+ghost use Rattle.slot_compile.specs.Template.{IsPlain};
 
 use crate::Destination;
 use crate::destination::leads_to;
@@ -9,13 +9,13 @@ use std::alloc::Global;
 use text_core::OutOfMemory;
 use view_api::Views;
 
-/// What the processes of a bundle share: its template, whose places have nothing inside, its routes, and the views.
+/// What the processes of a bundle share: its template, whose places are plain, its routes, and the views.
 #[derive(Drop)]
 pub struct App<V> {
     pub compiled: Compiled,
     pub routes: Routes,
     pub views: V,
-    pub ghost flat: { IsFlat compiled },
+    pub ghost plain: { IsPlain compiled },
 }
 
 impl<V: Views> App<V> {
@@ -28,7 +28,7 @@ impl<V: Views> App<V> {
         ensures routes { result.routes ≡ routes }
         ensures views { result.views ≡ views }
     {
-        compiled.places_are_flat();
+        compiled.places_are_plain();
         App {
             compiled,
             routes,

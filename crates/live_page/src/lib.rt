@@ -5,8 +5,6 @@ mod app;
 mod destination;
 mod fault;
 mod page;
-#[cfg(test)]
-mod tests;
 
 pub use app::App;
 pub use destination::Destination;

@@ -11,19 +11,22 @@ ghost use Rattle.live_page.specs.Page.{StandsFor, Joins, Turns};
 
 use crate::{App, Destination, PageFault};
 use assigns_track::Tracked;
-use diff_render::{first, next};
+use diff_render::{Prints, first, next};
 use diff_tree::Part;
 use effects_apply::{Rest, apply_effects};
 use std::alloc::Global;
-use text_core::Text;
+use std::mem;
+use text_core::{Seq, Text};
 use value_core::Value;
 use view_api::{Effects, Owner, Views};
 
-/// A page that is up: its view, its assigns, and the reference and the topic of its join.
+/// A page that is up: its view, its assigns, what is remembered of its last rendering, and the reference and the topic of
+/// its join.
 #[derive(Drop)]
 pub struct LivePage {
     pub view: u32,
     pub assigns: Tracked,
+    pub prints: Prints,
     pub join_ref: Option<Text>,
     pub topic: Text,
 }
@@ -49,11 +52,12 @@ impl LivePage {
             .views
             .handle_params(alloc, to.view, &to.params, assigns.assigns())?;
         apply_effects(alloc, begun, &mut assigns, rest)?;
-        let tree = first(alloc, &app.compiled, assigns.assigns())?;
+        let (tree, prints) = first(alloc, &app.compiled, assigns.assigns())?;
         assigns.settle();
         let page = LivePage {
             view: to.view,
             assigns,
+            prints,
             join_ref,
             topic,
         };
@@ -126,7 +130,9 @@ impl LivePage {
             → Turns app.now.compiled w p (view_turn (world_of V.meaning app.now) p (Some (effects_view effects)) (rest_view w rest.old)) self.new result rest.new }
     {
         apply_effects(alloc, effects, &mut self.assigns, rest)?;
-        let diff = next(alloc, &app.compiled, &self.assigns)?;
+        let prints = mem::replace(&mut self.prints, Seq::new(alloc));
+        let (diff, prints) = next(alloc, &app.compiled, &self.assigns, prints)?;
+        self.prints = prints;
         self.assigns.settle();
         Ok(diff)
     }

@@ -4,7 +4,5 @@
 mod form;
 mod path;
 mod putting;
-#[cfg(test)]
-mod tests;
 
 pub use form::read_form;

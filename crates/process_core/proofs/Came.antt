@@ -1,5 +1,5 @@
 -- What a join leaves.
-use Rattle.std.proofs.Common.{◌≡◌, ℕ, suc, ◌+◌, List, [], ◌∷◌, ◌++◌, length, map, Option, Some, Ok, Err, refl, sym, ap, ◌∙◌, subst, codes, arith}
+use Rattle.std.proofs.Common.{◌≡◌, ℕ, suc, ◌+◌, List, [], ◌∷◌, ◌++◌, length, map, Option, Some, None, Ok, Err, IsErr, true, true≢false, refl, sym, ap, ◌∙◌, subst, codes, arith}
 use Rattle.std.proofs.lemmas.List.{append-nil}
 use Rattle.value_core.specs.View.{view}
 use Rattle.value_core.specs.declared.value.Value.{Value as Stored}
@@ -7,13 +7,14 @@ use Rattle.view_api.specs.Meaning.{HandlerMeaning}
 use Rattle.ast_core.specs.Places.{cut}
 use Rattle.slot_compile.specs.Template.{Source, syntax_of}
 use Rattle.diff_tree.specs.Client.{PageTree}
-use Rattle.diff_tree.specs.Frame.{rendered}
+use Rattle.diff_tree.specs.Frame.{refusal, rendered}
 use Rattle.diff_tree.specs.Spelling.{Pushed}
 use Rattle.wire_v2.specs.Message.{MessageHead}
-use Rattle.wire_v2.specs.FrameData.{pushed_of}
-use Rattle.wire_v2.specs.declared.push.Push.{Push}
+use Rattle.diff_tree.specs.Parts.{pushed_of}
+use Rattle.diff_tree.specs.declared.push.Push.{Push}
 use Rattle.machine_api.specs.declared.machine.Action as asked
-use Rattle.diff_render.specs.Renders.{present, whole_json}
+use Rattle.diff_render.specs.Renders.{whole_json}
+use Rattle.diff_render.specs.Tracked.{present}
 use Rattle.effects_apply.specs.declared.rest.Rest.{Rest as Beside}
 use Rattle.effects_apply.specs.Applied.{rest_view, CountsFree, action_view}
 use Rattle.live_page.specs.declared.app.App.{App}
@@ -26,14 +27,14 @@ use Rattle.doc_model.specs.Evaluation.{Res}
 use Rattle.doc_model.specs.Effects.{Waiting, sent, Rest}
 use Rattle.doc_model.specs.Components.{whole_tree}
 use Rattle.doc_model.specs.Journal.{fault_frames, spelled}
-use Rattle.doc_model.specs.Process.{Outcome as Given, ProcessState, Route, Stepped, World, after_join, joined_page, reply_to, rest_of, step_join}
+use Rattle.doc_model.specs.Process.{Outcome as Given, ProcessState, Route, Stepped, World, after_join, goes_down, joined_page, reply_to, rest_of, step_join}
 use Rattle.process_core.specs.declared.join.Joined.{Joined}
 use Rattle.process_core.specs.declared.outcome.Outcome.{Outcome}
 use Rattle.process_core.specs.declared.process.Process.{Process}
 use Rattle.process_core.specs.Kept.{Keeps}
 use Rattle.process_core.specs.Answers.{Answers, Fits}
-use Rattle.process_core.specs.Joining.{Begins, Came, last_words_of}
-use Rattle.process_core.proofs.Left.{answers_by}
+use Rattle.process_core.specs.Joining.{Begins, Came, Crashed, frames_only, last_words_of}
+use Rattle.process_core.proofs.Left.{answers_by, down}
 use Rattle.process_core.proofs.Stays.{StaysOn, joined_stays}
 use Rattle.process_core.proofs.Whole.{page_is_root}
 
@@ -74,6 +75,10 @@ joined_of world r j j' t t' x x' j_is t_is x_is =
 pub begins_fault : (template : Source) (w : List Waiting) (given : Res Given) (f : PageFault) (rest : Beside) → Joins template w given (Err f) rest → Begins template w given (Err f)
 begins_fault template w given fault.Raised rest h = h
 begins_fault template w given fault.OutOfMemory rest h = h
+
+-- a first page that raises
+pub begins_raised : (template : Source) (w : List Waiting) (given : Res Given) (f : PageFault) → f ≡ fault.Raised → Begins template w given (Err f) → IsErr given
+begins_raised template w given f is = subst (λ x. Begins template w given (Err x)) is
 
 module _ {V : Type 0} (meaning : V → HandlerMeaning) (app : App V) (h : MessageHead) (r : Route) (w : List Waiting) (g : ℕ) where
   abbrev pub begun : Res Given
@@ -131,3 +136,15 @@ module _ {V : Type 0} (meaning : V → HandlerMeaning) (app : App V) (h : Messag
   up_is joined kept o s is l came =
       answers_by app.compiled w (step_join (world_of meaning app) s w h (Some r)) (state_with l.outcome) kept (kept_with joined) o o
       (step_is s is ∙ ap (λ x. after_join (world_of meaning app) g h w r x) l.given_is) came.kept_is refl (up_answers joined kept o l came)
+
+  -- a join that raises
+  crashed_by : (q : Res Given) → IsErr q → after_join (world_of meaning app) g h w r q ≡ goes_down g w (reply_to h (refusal (codes "join crashed")) ∷ []) true
+  crashed_by (Err e) fails = refl
+  crashed_by (Ok o) fails = absurd (true≢false (sym fails))
+
+  pub down_is : (kept : Process) (o : Outcome) (s : ProcessState) → suc s.generation ≡ g → IsErr begun → Crashed g (spelled (reply_to h (refusal (codes "join crashed")) ∷ [])) kept o
+      → Answers app.compiled w (step_join (world_of meaning app) s w h (Some r)) kept o
+  down_is kept o s is fails crashed =
+      let fs = reply_to h (refusal (codes "join crashed")) ∷ [] in
+      answers_by app.compiled w (step_join (world_of meaning app) s w h (Some r)) (goes_down g w fs true) kept (record { generation = g; up = None }) o (frames_only (spelled fs) true)
+      (step_is s is ∙ crashed_by begun fails) crashed.kept_is crashed.told (down app.compiled g w fs true)

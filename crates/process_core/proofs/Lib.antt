@@ -2,6 +2,7 @@ pub mod Whole
 pub mod Stays
 pub mod Left
 pub mod Came
+pub mod Parts
 pub mod Plain
 pub mod Turning
 pub mod Settling

@@ -1,53 +1,46 @@
--- What is sent of a page whose places have nothing inside: no component is met, and an empty diff is an object without members.
-use Rattle.std.proofs.Common.{◌≡◌, ℕ, suc, List, [], ◌∷◌, map, Option, Some, None, IsTrue, ◌↔◌, true≢false, codes, Ok, Err, Bool, true, false, ◌&&◌, Ordering, Less, Equal, Greater, nat_cmp, refl, sym, ap, ◌∙◌, subst}
+-- What is sent of a page whose places are plain: no component is met, and an empty diff is an object without members.
+use Rattle.std.proofs.Common.{◌≡◌, ℕ, suc, List, [], ◌∷◌, map, Option, Some, None, IsTrue, ◌↔◌, true≢false, codes, Ok, Bool, true, false, ◌&&◌, Ordering, Less, Equal, Greater, nat_cmp, refl, sym, ap, ◌∙◌, subst}
 use Rattle.std.specs.Ordering.{match_ordering}
 use Rattle.std.specs.Cmp.Lexicographic.{slice_cmp}
 use Rattle.std.specs.Fmt.{decimal}
-use Rattle.serde_json.specs.Data.{Data, array, object, Members, no_members, member, put}
+use Rattle.serde_json.specs.Data.{Data, array, object, Items as Listed, Members, no_members, member, put}
 use Rattle.text_core.specs.declared.by_key.KeyValue.{KeyValue}
-use Rattle.value_core.specs.Value.{Value, Assigns}
-use Rattle.ast_core.specs.Syntax.{Place}
-use Rattle.slot_compile.specs.Template.{Source}
+use Rattle.value_core.specs.Value.{Assigns, no_assigns}
+use Rattle.slot_compile.specs.Template.{Source, syntax_of}
 use Rattle.diff_tree.specs.Container.{is_none}
-use Rattle.diff_tree.specs.Client.{PageDiff}
+use Rattle.diff_tree.specs.Client.{PageDiff, PageTree}
 use Rattle.diff_tree.specs.Tree.{Changes, no_changes, skip, change}
-use Rattle.diff_tree.specs.Spelling.{texts_json, change_json, changes_json, changed_json, with_components, page_diff_json}
-use Rattle.diff_tree.specs.Parts.{part_data, node_data, statics_of, places_of, place_data, part_step, place_step, places_json, seen}
+use Rattle.diff_tree.specs.Spelling.{texts_json, change_json, changes_json, changed_json, with_events, with_components, members_of, page_diff_json, page_tree_json}
+use Rattle.diff_tree.specs.Parts.{part_data, page_data, place_data, row_data, body_members, statics_of, body_of, with_statics, with_stream, part_step, place_step, body_step, row_step, places_json, rows_items, seen, pushed_of}
 use Rattle.diff_tree.specs.declared.part.Part.{Part}
+use Rattle.diff_tree.specs.declared.part.PartBody.{PartBody}
+use Rattle.diff_tree.specs.declared.part.PartBody.TheVariants as body
+use Rattle.diff_tree.specs.declared.part.PartBody.TheVariants.{rolls-Places, rolls-List}
+use Rattle.diff_tree.specs.declared.part.PartBody.TheOpen.{PartBody-F}
+use Rattle.diff_tree.specs.declared.part.PartBody.TheFolds.{fold-roll-PartBody}
 use Rattle.diff_tree.specs.declared.part.PlaceValue.{PlaceValue}
-use Rattle.diff_tree.specs.declared.part.PlaceValue.TheFolds.{fold_out-Part}
+use Rattle.diff_tree.specs.declared.part.Row.{Row}
+use Rattle.diff_tree.specs.declared.push.Push.{Push}
+use Rattle.diff_tree.specs.declared.stream.StreamPart.{StreamPart}
+use Rattle.diff_tree.proofs.Written.{part_data-out}
 use Rattle.wire_v2.specs.FrameGrammar.{is_empty_object}
-use Rattle.wire_v2.specs.FrameData.{pushed_of}
-use Rattle.wire_v2.specs.declared.push.Push.{Push}
-use Rattle.doc_model.specs.Evaluation.{Res, both, on_res}
 use Rattle.doc_model.specs.Lean.{is_empty}
-use Rattle.doc_model.specs.Trace.{Items, item, met_text}
+use Rattle.doc_model.specs.Trace.{Items}
 use Rattle.doc_model.specs.Components.{parts, lean_parts, lean_diff}
-use Rattle.doc_model.specs.Process.{no_difference}
-use Rattle.diff_render.specs.Met.{Meets, shown_at, read_at, items_of, places_of as template_places}
-use Rattle.diff_render.proofs.Items.{met_items}
-
--- no component is met
-abbrev Plainly : Res Items → Type 0
-Plainly (Ok is) = parts is ≡ []
-Plainly (Err e) = Unit {0}
-
-one_more : (r : Res (List ℕ)) (v : List (Option Value)) (q : Res Items) → Plainly q → Plainly (both item (on_res (met_text v) r) q)
-one_more (Ok t) v (Ok is) h = h
-one_more (Ok t) v (Err e) h = tt
-one_more (Err e) v q h = tt
-
-all_plain : (as' : Assigns) (ps : List Place) → Plainly (items_of as' ps)
-all_plain as' [] = refl
-all_plain as' (p ∷ ps) = one_more (shown_at as' p) (read_at as' p) (items_of as' ps) (all_plain as' ps)
+use Rattle.doc_model.specs.Process.{levels, no_difference}
+use Rattle.doc_model.proofs.Results.{On}
+use Rattle.diff_render.specs.Renders.{Meets}
+use Rattle.diff_render.specs.Scope.{alone, scope_of}
+use Rattle.process_core.proofs.Parts.{NoParts, plain_parts}
 
 -- such a page meets no component
-pub no_parts : (template : Source) (as' : Assigns) (is : Items) → Meets template as' (Ok is) → parts is ≡ []
-no_parts template as' is h = subst Plainly (met_items template as' (Ok is) h) (all_plain as' (template_places template))
+pub no_parts : (source : Source) (as' : Assigns) (is : Items) → Meets source as' (Ok is) → parts is ≡ []
+no_parts source as' is h =
+    subst (On NoParts) (h.is alone (scope_of as' no_assigns) refl refl) (plain_parts alone levels (scope_of as' no_assigns) (syntax_of source) h.plain)
 
 -- and its diff has none
-pub plain_diff : (template : Source) (as' : Assigns) (old is : Items) → Meets template as' (Ok is) → (lean_diff old is).components ≡ []
-plain_diff template as' old is h = ap (lean_parts (parts old)) (no_parts template as' is h)
+pub plain_diff : (source : Source) (as' : Assigns) (old is : Items) → Meets source as' (Ok is) → (lean_diff old is).components ≡ []
+plain_diff source as' old is h = ap (lean_parts (parts old)) (no_parts source as' is h)
 
 -- a member that was put is there
 put_some : (k : List ℕ) (d : Data) (ms : Members) → is_empty_object (object (put k d ms)) ≡ false
@@ -75,25 +68,41 @@ nothing_is d part [] plain is = ap is_empty_object is ∙ empty_is 0 d.root ∙ 
     both_true false = refl
 nothing_is d part (e ∷ es) plain is = refl
 
--- a diff without components is its changes
-pub page_is : (d : PageDiff) → d.components ≡ [] → object (changes_json 0 d.root) ≡ page_diff_json d []
-page_is d plain = sym (ap (λ cs. object (with_components (changed_json cs) (changes_json 0 d.root))) plain)
+-- a diff without components is its changes, with its events
+pub page_is : (d : PageDiff) (part : Part) (es : List Push) → d.components ≡ [] → part_data part ≡ object (changes_json 0 d.root) → page_data part [] es ≡ page_diff_json d (map pushed_of es)
+page_is d part es plain is =
+    ap (λ x. object (with_events (map pushed_of es) (members_of x))) is
+    ∙ sym (ap (λ cs. object (with_events (map pushed_of es) (with_components (changed_json cs) (changes_json 0 d.root)))) plain)
 
--- ---- a node without statics and places
+-- the whole tree with its events
+pub tree_is : (p : PageTree) (part : Part) (es : List Push) → part_data part ≡ page_tree_json p [] → page_data part [] es ≡ page_tree_json p (map pushed_of es)
+tree_is p part es is = ap (λ x. object (with_events (map pushed_of es) (members_of x))) is
 
-part_is : (p : Part) → part_data p ≡ node_data (statics_of p) (places_of p)
-part_is p = fold_out-Part Data Data place_step part_step p
+-- ---- a node without statics, places and rows
+
+abbrev node_of : Option (List (List ℕ)) → PartBody → Data
+node_of st b = object (with_statics st (body_members b))
 
 pub with_statics_is : (p : Part) (st : List (List ℕ)) → Some st ≡ statics_of p → is_empty_object (part_data p) ≡ false
 with_statics_is p st is =
-    ap is_empty_object (part_is p) ∙ ap (λ o. is_empty_object (node_data o (places_of p))) (sym is)
-    ∙ put_some (codes "s") (array (texts_json st)) (places_json (seen (places_of p)))
+    ap is_empty_object (part_data-out p) ∙ ap (λ o. is_empty_object (node_of o (body_of p))) (sym is)
+    ∙ put_some (codes "s") (array (texts_json st)) (body_members (body_of p))
 
-pub bare_is : (p : Part) (b : Bool) → None ≡ statics_of p → IsTrue b ↔ (places_of p ≡ []) → b ≡ is_empty_object (part_data p)
-bare_is p b is h = by (places_of p) b h ∙ sym (ap is_empty_object (part_is p) ∙ ap (λ o. is_empty_object (node_data o (places_of p))) (sym is))
+pub without_is : (p : Part) → None ≡ statics_of p → is_empty_object (part_data p) ≡ is_empty_object (object (body_members (body_of p)))
+without_is p is = ap is_empty_object (part_data-out p) ∙ ap (λ o. is_empty_object (node_of o (body_of p))) (sym is)
+
+pub places_bare : (es : List (KeyValue PlaceValue)) (b : Bool) → IsTrue b ↔ (es ≡ []) → b ≡ is_empty_object (object (body_members (body.Places es)))
+places_bare es b h =
+    by es b h
+    ∙ sym (ap (λ ms. is_empty_object (object ms)) (ap body_members (sym (rolls-Places es)) ∙ fold-roll-PartBody Members Data Data Listed body_step place_step part_step row_step (PartBody-F.Places es)))
   where
-    by : (es : List (KeyValue PlaceValue)) (c : Bool) → IsTrue c ↔ (es ≡ []) → c ≡ is_empty_object (node_data None es)
+    by : (es : List (KeyValue PlaceValue)) (c : Bool) → IsTrue c ↔ (es ≡ []) → c ≡ is_empty_object (object (places_json (seen es)))
     by [] true k = refl
     by [] false k = absurd (true≢false (sym (k.1 refl)))
     by (e ∷ es) true k = let no : e ∷ es ≡ [] = k.0 refl in cc
     by (e ∷ es) false k = sym (put_some e.key (place_data e.value) (places_json (seen es)))
+
+pub list_not_bare : (rs : List Row) (s : Option StreamPart) → false ≡ is_empty_object (object (body_members (body.List rs s)))
+list_not_bare rs s =
+    sym (put_some (codes "d") (array (rows_items (map row_data rs))) (with_stream s no_members))
+    ∙ sym (ap (λ ms. is_empty_object (object ms)) (ap body_members (sym (rolls-List rs s)) ∙ fold-roll-PartBody Members Data Data Listed body_step place_step part_step row_step (PartBody-F.List rs s)))

@@ -10,11 +10,12 @@ use Rattle.slot_compile.specs.Template.{Source}
 use Rattle.diff_tree.specs.declared.part.Part.{Part}
 use Rattle.diff_tree.specs.Client.{PageDiff}
 use Rattle.diff_tree.specs.Frame.{Frame, faulted}
-use Rattle.diff_render.specs.Renders.{present, lean_json}
+use Rattle.diff_render.specs.Renders.{lean_json}
+use Rattle.diff_render.specs.Tracked.{present}
 use Rattle.machine_api.specs.declared.machine.Action as asked
-use Rattle.wire_v2.specs.declared.push.Push.{Push}
+use Rattle.diff_tree.specs.declared.push.Push.{Push}
 use Rattle.wire_v2.specs.Message.{MessageHead}
-use Rattle.wire_v2.specs.FrameData.{pushed_of}
+use Rattle.diff_tree.specs.Parts.{pushed_of}
 use Rattle.effects_apply.specs.declared.rest.Rest.{Rest as Beside}
 use Rattle.effects_apply.specs.Applied.{action_view, rest_view, CountsFree}
 use Rattle.doc_model.specs.Evaluation.{Res}

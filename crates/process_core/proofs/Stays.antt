@@ -7,14 +7,13 @@ use Rattle.value_core.specs.declared.raise.Raise.TheVariants.{BadArgument, Inbox
 use Rattle.view_api.specs.Effect.{Effect, assign_to, stream_insert, stream_delete, stream_reset, subscribe, unsubscribe, publish, send_self, push_event}
 use Rattle.view_api.specs.Meaning.{HandlerMeaning}
 use Rattle.diff_tree.specs.Container.{Position, Limit}
-use Rattle.diff_render.specs.Met.{items_of, places_of}
 use Rattle.doc_model.specs.Evaluation.{Res, then_do, on_res}
 use Rattle.doc_model.specs.Trace.{Items}
 use Rattle.doc_model.specs.Effects.{to_publish, sent, Rest, inbox_limit, storable, sendable, position_of, limit_of, batch_insert, in_stream, Applied, acting, send_value, is_kept_name, assigned, insert_of, apply_effect, apply_effects, applied_or_raise, empty_stream}
 use Rattle.doc_model.specs.Process.{Outcome, Route, joined_page, rendered_page, turning_view}
 use Rattle.live_page.specs.declared.app.App.{App}
 use Rattle.live_page.specs.World.{world_of}
-use Rattle.live_page.proofs.Rendered.{rendered_is, outcome_of}
+use Rattle.live_page.proofs.Rendered.{met_of, rendered_is, outcome_of}
 
 -- effects leave the generation
 abbrev pub StaysIn : ℕ → Res Applied → Type 0
@@ -85,7 +84,7 @@ module _ {V : Type 0} (meaning : V → HandlerMeaning) (app : App V) where
 
   pub rendered_stays : (g v : ℕ) (j : Option (List ℕ)) (t : List ℕ) (q : Applied) → q.1.generation ≡ g → StaysOn g (rendered_page (world_of meaning app) v j t (turning_view [] 1 q))
   rendered_stays g v j t q h =
-      subst (StaysOn g) (sym (rendered_is meaning app v j t q.0.assigns q.0.streams q.1)) (outcome_stays g v j t q.0.assigns q.1 h (items_of q.0.assigns (places_of app.compiled)))
+      subst (StaysOn g) (sym (rendered_is meaning app v j t q.0.assigns q.0.streams q.1)) (outcome_stays g v j t q.0.assigns q.1 h (met_of meaning app q.0.assigns))
 
   shown_stays : (g v : ℕ) (j : Option (List ℕ)) (t : List ℕ) (r : Res Applied) → StaysIn g r → StaysOn g (then_do r (λ q. rendered_page (world_of meaning app) v j t (turning_view [] 1 q)))
   shown_stays g v j t (Ok q) h = rendered_stays g v j t q h

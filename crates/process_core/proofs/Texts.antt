@@ -1,7 +1,8 @@
 -- The text of the page that is up.
 use Rattle.std.proofs.Common.{◌≡◌, ℕ, List, Option, Some, None, Ok, refl, ap}
 use Rattle.doc_model.specs.Process.{Page, scope_of_view, page_text}
-use Rattle.diff_render.specs.Renders.{present, IsRendering}
+use Rattle.diff_render.specs.Renders.{IsRendering}
+use Rattle.diff_render.specs.Tracked.{present}
 use Rattle.view_api.specs.Meaning.{HandlerMeaning}
 use Rattle.live_page.specs.declared.app.App.{App}
 use Rattle.live_page.specs.declared.page.LivePage.{LivePage}
@@ -13,7 +14,7 @@ use Rattle.process_core.specs.Shown.{ShowsUp}
 
 module _ {V : Type 0} (meaning : V → HandlerMeaning) (app : App V) where
   one_page : (u : LivePage) (p : Page) (text : List ℕ) → StandsFor app.compiled u p → IsRendering app.compiled (present u.assigns) (Ok text) → page_text (world_of meaning app) p ≡ Ok text
-  one_page u p text stands is = is site 40 (scope_of_view p.assigns p.streams p.components) (ap (λ (x : Page). x.assigns) stands.is) refl
+  one_page u p text stands is = is site (scope_of_view p.assigns p.streams p.components) (ap (λ (x : Page). x.assigns) stands.is) refl
 
   pub shows_text : (u : Up) (q : Option Page) (text : List ℕ) → UpStands app.compiled (Some u) q → IsRendering app.compiled (present u.page.assigns) (Ok text) → ShowsUp (world_of meaning app) q (Some text)
   shows_text u None text up is = absurd up

@@ -1,4 +1,4 @@
--- What a turn of a page whose places have nothing inside leaves of it, and of the process beside it.
+-- What a turn of a page whose places are plain leaves of it, and of the process beside it.
 use Rattle.std.proofs.Common.{◌≡◌, ℕ, List, [], ◌∷◌, ◌++◌, length, Option, Some, None, Ok, Err, Bool, true, false, refl, sym, ap, ◌∙◌, subst, nat_lt, if◌then◌else◌}
 use Rattle.serde_json.specs.Data.{Data}
 use Rattle.serde_json.specs.Written.{compact_text}
@@ -6,8 +6,7 @@ use Rattle.value_core.specs.Value.{Value, Assigns}
 use Rattle.value_core.specs.declared.raise.Raise.TheVariants.{BadArgument, InboxFull}
 use Rattle.view_api.specs.Effect.{Effect, assign_to, stream_insert, stream_delete, stream_reset, subscribe, unsubscribe, publish, send_self, push_event}
 use Rattle.view_api.specs.Meaning.{HandlerMeaning}
-use Rattle.diff_render.specs.Met.{items_of, places_of}
-use Rattle.diff_render.specs.Renders.{present}
+use Rattle.diff_render.specs.Tracked.{present}
 use Rattle.diff_tree.specs.Container.{Position, Limit}
 use Rattle.doc_model.specs.Evaluation.{Res, then_do, on_res}
 use Rattle.doc_model.specs.Effects.{Rest, Applied, sent, inbox_limit, is_kept_name, storable, sendable, position_of, limit_of, assigned, in_stream, batch_insert, insert_of, acting, to_publish, send_value, apply_effect, apply_effects}
@@ -17,7 +16,7 @@ use Rattle.live_page.specs.declared.app.App.{App}
 use Rattle.live_page.specs.declared.page.LivePage.{LivePage}
 use Rattle.live_page.specs.World.{world_of}
 use Rattle.live_page.specs.Page.{StandsFor}
-use Rattle.live_page.proofs.Rendered.{outcome_of}
+use Rattle.live_page.proofs.Rendered.{met_of, outcome_of}
 use Rattle.live_page.proofs.Turned.{turned}
 
 -- ---- no effect changes the generation
@@ -96,8 +95,8 @@ module _ {V : Type 0} (meaning : V → HandlerMeaning) (app : App V) where
       by : (q : Res Applied) → apply_effects es start ≡ q → Under r0.generation q → Keeping u.join_ref u.topic r0.generation (view_turn (world_of meaning app) p (Some es) r0)
       by (Ok a) is under =
           subst (Keeping u.join_ref u.topic r0.generation) (sym (turned meaning app u p stands es r0 a.0.assigns a.0.streams a.1 is))
-          (subst (λ g. Keeping u.join_ref u.topic g (on_res (outcome_of meaning app u.view u.join_ref u.topic a.0.assigns a.1) (items_of a.0.assigns (places_of app.compiled)))) under
-          (shown u.view u.join_ref u.topic a.0.assigns a.1 (items_of a.0.assigns (places_of app.compiled))))
+          (subst (λ g. Keeping u.join_ref u.topic g (on_res (outcome_of meaning app u.view u.join_ref u.topic a.0.assigns a.1) (met_of meaning app a.0.assigns))) under
+          (shown u.view u.join_ref u.topic a.0.assigns a.1 (met_of meaning app a.0.assigns)))
       by (Err e) is under =
           subst (Keeping u.join_ref u.topic r0.generation)
           (sym (ap (λ as'. then_do (apply_effects es (record { assigns = as'; streams = p.streams }, r0)) (λ a. rendered_page (world_of meaning app) p.view p.join_reference p.topic (turning_view p.components p.next a))) assigns_are

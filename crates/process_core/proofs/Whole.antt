@@ -1,4 +1,4 @@
--- The whole tree of a page whose places have nothing inside, as a JSON value.
+-- The whole tree of a page whose places are plain, as a JSON value.
 use Rattle.std.proofs.Common.{◌≡◌, ℕ, List, [], Ok, sym, ap}
 use Rattle.serde_json.specs.Data.{Data}
 use Rattle.value_core.specs.Value.{Assigns}
@@ -6,8 +6,7 @@ use Rattle.ast_core.specs.Places.{cut}
 use Rattle.slot_compile.specs.Template.{Source, syntax_of}
 use Rattle.diff_tree.specs.Tree.{node}
 use Rattle.diff_tree.specs.Spelling.{page_tree_json}
-use Rattle.diff_render.specs.Met.{Meets}
-use Rattle.diff_render.specs.Renders.{whole_json}
+use Rattle.diff_render.specs.Renders.{Meets, whole_json}
 use Rattle.doc_model.specs.Trace.{Items}
 use Rattle.doc_model.specs.Whole.{whole_places}
 use Rattle.doc_model.specs.Components.{Part, part_numbers, option_tree, part_at, whole_tree}

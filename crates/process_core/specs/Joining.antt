@@ -6,7 +6,7 @@ use Rattle.diff_tree.specs.Frame.{rendered, faulted}
 use Rattle.diff_tree.specs.Spelling.{page_tree_json}
 use Rattle.diff_tree.specs.Parts.{part_data}
 use Rattle.wire_v2.specs.Message.{MessageHead}
-use Rattle.wire_v2.specs.FrameData.{pushed_of}
+use Rattle.diff_tree.specs.Parts.{pushed_of}
 use Rattle.diff_render.specs.Renders.{whole_json}
 use Rattle.live_page.specs.Page.{Leaves}
 use Rattle.live_page.specs.declared.page.LivePage.{LivePage}

@@ -8,8 +8,8 @@ use Rattle.diff_tree.specs.Frame.{Frame, push}
 use Rattle.diff_tree.specs.Spelling.{Pushed, changes_json}
 use Rattle.diff_tree.specs.Parts.{part_data}
 use Rattle.diff_tree.specs.declared.part.Part.{Part}
-use Rattle.wire_v2.specs.declared.push.Push.{Push}
-use Rattle.wire_v2.specs.FrameData.{pushed_of}
+use Rattle.diff_tree.specs.declared.push.Push.{Push}
+use Rattle.diff_tree.specs.Parts.{pushed_of}
 use Rattle.effects_apply.specs.declared.rest.Rest.{Rest}
 use Rattle.effects_apply.specs.Applied.{action_view}
 use Rattle.live_page.specs.declared.page.LivePage.{LivePage}

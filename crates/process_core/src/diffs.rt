@@ -4,9 +4,8 @@ ghost use Rattle.serde_json.specs.Data.{object};
 ghost use Rattle.diff_tree.specs.Container.{is_none};
 ghost use Rattle.diff_tree.specs.Client.{PageDiff};
 ghost use Rattle.diff_tree.specs.Spelling.{changes_json};
-ghost use Rattle.diff_tree.specs.Parts.{part_data};
 ghost use Rattle.wire_v2.specs.FrameGrammar.{is_empty_object};
-ghost use Rattle.wire_v2.specs.FrameData.{pushed_of};
+ghost use Rattle.diff_tree.specs.Parts.{body_members, part_data, pushed_of};
 ghost use Rattle.wire_v2.specs.FrameLaws.{BodyStandsFor};
 ghost use Rattle.wire_v2.specs.View.{head_view};
 ghost use Rattle.doc_model.specs.Process.{diff_body, reply_diff};
@@ -14,12 +13,12 @@ ghost use Rattle.process_core.specs.Turned.{SpellsDiff, Sums, SumsUp, push_under
 
 use crate::frames::{push, reply};
 use crate::outcome::{Outcome, only};
-use diff_tree::{Diff, Part};
+use diff_tree::{Diff, Part, PartBody, Pushes};
 use effects_apply::Rest;
 use live_page::{LivePage, PageFault};
 use std::alloc::Global;
 use text_core::{Frames, OutOfMemory, Seq};
-use wire_v2::{FrameBody, MessageHead, Pushes};
+use wire_v2::{FrameBody, MessageHead};
 
 // Whether nothing of the page is sent.
 fn is_bare(part: &Part) -> bool
@@ -27,7 +26,17 @@ fn is_bare(part: &Part) -> bool
 {
     match part.statics() {
         Some(_statics) => false,
-        None => part.places().is_empty(),
+        None => has_nothing(part.body()),
+    }
+}
+
+// Whether a body has neither a place nor rows.
+fn has_nothing(body: &PartBody) -> bool
+    ensures { result ≡ is_empty_object (object (body_members body.now)) }
+{
+    match body {
+        PartBody::Places(places) => places.is_empty(),
+        PartBody::List { .. } => false,
     }
 }
 
@@ -42,14 +51,14 @@ fn is_nothing(part: &Part, events: &Pushes) -> bool
 }
 
 // What a reply carries: the diff, or nothing where it is empty.
-fn reply_body(part: Part, events: Pushes) -> FrameBody
+fn reply_body(alloc: Global, part: Part, events: Pushes) -> FrameBody
     ensures { (d : PageDiff) → d.components ≡ [] → part_data part ≡ object (changes_json 0 d.root) → BodyStandsFor result (diff_body d (map pushed_of events)) }
 {
     if is_nothing(&part, &events) {
         return FrameBody::Empty;
     }
-    let diff = Diff::new(part);
-    FrameBody::Changed { diff, events }
+    let diff = Diff::new(part, Seq::new(alloc), events);
+    FrameBody::Changed(diff)
 }
 
 // The frame that pushes a diff, where there is one.
@@ -64,8 +73,8 @@ fn diff_push(
     if is_nothing(&part, &events) {
         return Ok(Seq::new(alloc));
     }
-    let diff = Diff::new(part);
-    push(alloc, page, FrameBody::Pushed { diff, events })
+    let diff = Diff::new(part, Seq::new(alloc), events);
+    push(alloc, page, FrameBody::Pushed(diff))
 }
 
 /// What a turn gives that answers a message. After a raise it gives the last frames of the page.
@@ -100,7 +109,7 @@ fn replied(
         actions,
         pushed,
     } = rest;
-    let body = reply_body(part, pushed);
+    let body = reply_body(alloc, part, pushed);
     let frames = reply(alloc, head, body)?;
     Ok(Outcome {
         frames,

@@ -16,7 +16,7 @@ use diff_tree::{Diff, Part};
 use effects_apply::Rest;
 use live_page::{App, Destination, LivePage, PageFault};
 use std::alloc::Global;
-use text_core::{Frames, OutOfMemory, Text};
+use text_core::{Frames, OutOfMemory, Seq, Text};
 use view_api::Views;
 use wire_v2::{FrameBody, MessageHead};
 
@@ -109,11 +109,8 @@ fn comes_up(
         actions,
         pushed,
     } = rest;
-    let body = FrameBody::Rendered {
-        tree: Diff::new(tree),
-        events: pushed,
-    };
-    let frames = reply(alloc, head, body)?;
+    let whole = Diff::new(tree, Seq::new(alloc), pushed);
+    let frames = reply(alloc, head, FrameBody::Rendered(whole))?;
     process.generation = generation;
     process.up = Some(Up { page, last_words });
     Ok(Outcome {

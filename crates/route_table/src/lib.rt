@@ -4,8 +4,6 @@
 mod find;
 mod route;
 mod table;
-#[cfg(test)]
-mod tests;
 mod url;
 
 pub use find::Found;

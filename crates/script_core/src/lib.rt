@@ -5,8 +5,6 @@ mod fit;
 mod read;
 mod script;
 mod shape;
-#[cfg(test)]
-mod tests;
 
 pub use read::{MOST_BYTES, read_script, script_law};
 pub use script::{Line, Script, ScriptFault};

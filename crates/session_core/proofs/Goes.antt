@@ -8,7 +8,7 @@ use Rattle.slot_compile.specs.Template.{Source, syntax_of}
 use Rattle.view_api.specs.Meaning.{HandlerMeaning}
 use Rattle.live_page.specs.declared.app.App.{App}
 use Rattle.live_page.specs.World.{world_of}
-use Rattle.live_page.proofs.Streams.{no_streams}
+use Rattle.diff_render.proofs.Plains.{plain_no_streams}
 use Rattle.process_core.specs.declared.process.Process.{Process}
 use Rattle.process_core.specs.declared.process.Up.{Up}
 use Rattle.process_core.specs.declared.outcome.Outcome.{Outcome}
@@ -72,7 +72,7 @@ module _ {V : Type 0} (meaning : V → HandlerMeaning) (app : App V) where
   standing es = standing_of meaning (machine app es)
 
   pub linked : IsLinked (world_of meaning app)
-  linked = record { of_view = λ v. subst Once (sym (no_streams (syntax_of app.compiled) app.flat)) tt; of_module = λ m. tt }
+  linked = record { of_view = λ v. subst Once (sym (plain_no_streams (syntax_of app.compiled) app.plain)) tt; of_module = λ m. tt }
 
   abbrev more_view : (es : List (ℕ × Entry)) (by : ℕ) (e : Entry) → journal_view (es ++ (by, e) ∷ []) ≡ journal_view es ++ entry_view e ∷ []
   more_view es by e = map-append (λ x. entry_view x.1) es ((by, e) ∷ [])

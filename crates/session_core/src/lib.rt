@@ -6,8 +6,6 @@ mod frames;
 mod message;
 mod post;
 mod session;
-#[cfg(test)]
-mod tests;
 mod written;
 
 pub use entry::{Entry, Waiting};

@@ -3,10 +3,8 @@ use Rattle.std.proofs.Common.{◌≡◌, ℕ, ◌+◌, ◌<◌, ◌≤◌, List,
 use Rattle.std.proofs.lemmas.List.{drop_all}
 use Rattle.text_core.proofs.Keyed.{cons_at}
 use Rattle.ast_core.specs.Places.{join_statics}
-use Rattle.ast_core.specs.Syntax.{Place}
 use Rattle.slot_compile.specs.declared.flattening.Flattening.{Flattening}
-use Rattle.slot_compile.specs.Gathering.{Stretch, gathered, hole, stretch, text, then_on}
-use Rattle.slot_compile.specs.Template.{place_of}
+use Rattle.slot_compile.specs.Gathering.{Numbered, Stretch, gathered, hole, numbered, stretch, text, then_on}
 
 cons_join : (x s : List ℕ) (a b c : List (List ℕ)) → join_statics (x ∷ join_statics (s ∷ a) b) c ≡ x ∷ join_statics (join_statics (s ∷ a) b) c
 cons_join x s [] [] c = refl
@@ -36,19 +34,19 @@ join_last [] x zs = refl
 join_last (y ∷ ys) x zs = cons_last y ys x zs ∙ ap (λ r. y ∷ r) (join_last ys x zs)
 
 -- a constant text, a place and nothing, behind what was gathered
-pub text_on : (ss : List (List ℕ)) (s t : List ℕ) (ps : List Place) → stretch (ss ++ (s ++ t) ∷ []) ps ≡ then_on (stretch (ss ++ s ∷ []) ps) (text t)
+pub text_on : (ss : List (List ℕ)) (s t : List ℕ) (ps : List Numbered) → stretch (ss ++ (s ++ t) ∷ []) ps ≡ then_on (stretch (ss ++ s ∷ []) ps) (text t)
 text_on ss s t ps = ap (λ r. stretch r ps) (sym (join_last ss s (t ∷ []))) ∙ ap (stretch (join_statics (ss ++ s ∷ []) (t ∷ []))) (sym (append-nil ps))
 
-pub hole_on : (ss : List (List ℕ)) (s : List ℕ) (ps : List Place) (p : Place) → stretch ((ss ++ s ∷ []) ++ [] ∷ []) (ps ++ p ∷ []) ≡ then_on (stretch (ss ++ s ∷ []) ps) (hole p)
+pub hole_on : (ss : List (List ℕ)) (s : List ℕ) (ps : List Numbered) (p : Numbered) → stretch ((ss ++ s ∷ []) ++ [] ∷ []) (ps ++ p ∷ []) ≡ then_on (stretch (ss ++ s ∷ []) ps) (hole p)
 hole_on ss s ps p =
     ap (λ r. stretch r (ps ++ p ∷ []))
     (append_assoc ss (s ∷ []) ([] ∷ []) ∙ ap (λ r. ss ++ r ∷ [] ∷ []) (sym (append-nil s)) ∙ sym (join_last ss s ([] ∷ [] ∷ [])))
 
-none_on : (ss : List (List ℕ)) (s : List ℕ) (ps : List Place) → then_on (stretch (ss ++ s ∷ []) ps) (text []) ≡ stretch (ss ++ s ∷ []) ps
+none_on : (ss : List (List ℕ)) (s : List ℕ) (ps : List Numbered) → then_on (stretch (ss ++ s ∷ []) ps) (text []) ≡ stretch (ss ++ s ∷ []) ps
 none_on ss s ps = sym (text_on ss s [] ps) ∙ ap (λ r. stretch (ss ++ r ∷ []) ps) (append-nil s)
 
 pub nothing_on : (f : Flattening) → gathered f ≡ then_on (gathered f) (text [])
-nothing_on f = sym (none_on f.statics f.last (map place_of f.dynamics))
+nothing_on f = sym (none_on f.statics f.last (map numbered f.dynamics))
 
 -- two steps, one after the other
 pub both_on : (a b g h k : Stretch) → h ≡ then_on g a → k ≡ then_on h b → k ≡ then_on g (then_on a b)

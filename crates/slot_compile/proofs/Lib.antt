@@ -1,3 +1,11 @@
-pub mod Flats
+pub mod Counts
+pub mod Elses
+pub mod Filled
+pub mod Found
 pub mod Joined
+pub mod Judging
+pub mod Plains
+pub mod Seen
+pub mod Standing
 pub mod StretchParts
+pub mod Tabled

@@ -1,3 +1,5 @@
 pub mod Gathering
+pub mod Numbering
 pub mod Stretches
+pub mod Tables
 pub mod Template

@@ -1,13 +1,9 @@
--- What is compiled: templates of texts, elements, attributes, spreads and interpolations.
-use Rattle.std.specs.Prelude.{◌≡◌, List, Bool, true, false, Option, Some, None, if◌then◌else◌}
-use Rattle.std.specs.List.{list_all}
+-- What is compiled: templates of texts, elements, attributes, spreads, interpolations, conditions, cases and loops.
+use Rattle.std.specs.Prelude.{◌≡◌, List, Bool, true, false, ◌&&◌, Option, Some, None, if◌then◌else◌}
 use Rattle.ast_core.specs.declared.node.Node.{Node}
-use Rattle.ast_core.specs.ExprView.{expr_view}
 use Rattle.ast_core.specs.NodeView.{nodes_view}
-use Rattle.ast_core.specs.Places.{places_in}
-use Rattle.ast_core.specs.Syntax.{Place, put, attribute, spread, Nodes}
-use Rattle.slot_compile.specs.declared.compiled.Dynamic.{Dynamic}
-use Rattle.slot_compile.specs.declared.compiled.Dynamic.TheVariants.{Put, Attribute, Spread}
+use Rattle.ast_core.specs.Syntax as model
+use Rattle.ast_core.specs.Syntax.{Place, put, attribute, spread, if_place, case_place, for_place, Nodes, no_nodes, node, text_node, element, at_place, Clauses, no_clauses, clause}
 
 -- a template as it was read: what contracts see of a compiled one
 abbrev pub Source : Type 0
@@ -17,26 +13,34 @@ Source = List Node
 abbrev pub syntax_of : Source → Nodes
 syntax_of source = nodes_view source
 
--- a place that has nothing inside: an interpolation, an attribute or a spread
-abbrev pub is_flat : Place → Bool
-is_flat (put e) = true
-is_flat (attribute n e) = true
-is_flat (spread e) = true
-is_flat p = false
+-- an interpolation, an attribute, a spread, or a condition, a case or a loop with nothing else inside
+abbrev mutual
+  pub is_plain : Place → Bool
+  is_plain (put e) = true
+  is_plain (attribute n e) = true
+  is_plain (spread e) = true
+  is_plain (if_place t a b) = all_plain a && all_plain b
+  is_plain (case_place e cs) = clauses_plain cs
+  is_plain (for_place p e ns) = all_plain ns
+  is_plain _ = false
 
--- all places of a template are of these kinds
-abbrev pub all_flat : Nodes → Bool
-all_flat ns = list_all is_flat (places_in ns)
+  -- all places of a template, and those inside them, are of these kinds
+  pub all_plain : Nodes → Bool
+  all_plain no_nodes = true
+  all_plain (node n ns) = node_plain n && all_plain ns
 
-abbrev pub IsFlat : Source → Type 0
-IsFlat source = all_flat (syntax_of source) ≡ true
+  pub node_plain : model.Node → Bool
+  node_plain (text_node t) = true
+  node_plain (element l t xs ns) = all_plain ns
+  node_plain (at_place l p) = is_plain p
 
--- the place that a dynamic is
-abbrev pub place_of : Dynamic → Place
-place_of (Put e) = put (expr_view e)
-place_of (Attribute n e) = attribute n (expr_view e)
-place_of (Spread e) = spread (expr_view e)
+  pub clauses_plain : Clauses → Bool
+  clauses_plain no_clauses = true
+  clauses_plain (clause p ns cs) = all_plain ns && clauses_plain cs
+
+abbrev pub IsPlain : Source → Type 0
+IsPlain source = all_plain (syntax_of source) ≡ true
 
 -- a template is compiled where all its places are of these kinds
 abbrev pub compiled_of : Source → Option Source
-compiled_of source = if all_flat (syntax_of source) then Some source else None
+compiled_of source = if all_plain (syntax_of source) then Some source else None

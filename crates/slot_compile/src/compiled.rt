@@ -1,54 +1,102 @@
 //! Templates, compiled.
-ghost use Rattle.std.specs.Prelude.{◌≡◌, IfOk, map};
+ghost use Rattle.std.specs.Prelude.{◌≡◌, IfOk, length, map};
 ghost use Rattle.ast_core.specs.Places.{places_in, cut};
-ghost use Rattle.slot_compile.specs.Gathering.{GivesUp, gathered};
-ghost use Rattle.slot_compile.specs.Stretches.{of_nodes};
-ghost use Rattle.slot_compile.specs.Template.{IsFlat, compiled_of, place_of, syntax_of};
+ghost use Rattle.slot_compile.specs.Gathering.{Judges, entries};
+ghost use Rattle.slot_compile.specs.Numbering.{AllReadRight, all_bodies, first_evaluated, node_at, place_count, place_in};
+ghost use Rattle.slot_compile.specs.Stretches.{of_bodies};
+ghost use Rattle.slot_compile.specs.Tables.{IsBodyOf};
+ghost use Rattle.slot_compile.specs.Template.{IsPlain, all_plain, compiled_of, syntax_of};
 
 use crate::Formula;
-use crate::flattening::{CompileFault, Flattening};
-use ast_core::Nodes;
+use crate::flattening::{Body, CompileFault, Flattening, Table};
+use ast_core::{Nodes, Pattern, Reads};
 use std::alloc::Global;
 use std::marker::Model;
-use text_core::{Names, OutOfMemory, Seq, Text};
+use text_core::{OutOfMemory, Seq, Text};
 
-/// What changes from rendering to rendering.
+/// What changes from rendering to rendering. The bodies inside it stand in the template's table, under their numbers.
 #[derive(Debug, Drop)]
 pub enum Dynamic {
     /// The text of a value.
     Put(Formula),
     /// An attribute of an element, with its name.
-    Attribute { name: Text, value: Formula },
+    Attribute {
+        name: Text,
+        value: Formula,
+    },
     /// The entries of a map as attributes of an element.
     Spread(Formula),
+    /// One of two bodies; none where there is no else.
+    If {
+        test: Formula,
+        yes: usize,
+        no: Option<usize>,
+    },
+    /// The body of the first clause that matches.
+    Case {
+        value: Formula,
+        clauses: Seq<Branch>,
+    },
+    /// A body for each item that matches; `reads` is what its list and its body read from outside.
+    For {
+        list: Formula,
+        pattern: Pattern,
+        reads: Reads,
+        body: usize,
+    },
+}
+
+/// A clause of a case: its pattern, and the number of its body.
+#[derive(Debug, Drop)]
+pub struct Branch {
+    pub pattern: Pattern,
+    pub body: usize,
 }
 
 impl Dynamic {
-    /// The expression that is evaluated there.
-    pub fn formula(&self) -> &Formula {
+    /// The expression that is evaluated there first.
+    pub fn formula(&self) -> &Formula
+        ensures { result.now ≡ first_evaluated self.now }
+    {
         match self {
             Dynamic::Put(value) => value,
             Dynamic::Attribute { name: _, value } => value,
             Dynamic::Spread(value) => value,
+            Dynamic::If {
+                test,
+                yes: _,
+                no: _,
+            } => test,
+            Dynamic::Case { value, clauses: _ } => value,
+            Dynamic::For {
+                list,
+                pattern: _,
+                reads: _,
+                body: _,
+            } => list,
         }
     }
 }
 
-/// A template, flattened: its constant texts, and the dynamics between them. Contracts see it as its source.
+/// A template in numbered bodies: body 0 is the template, and the bodies inside places follow in document order, each
+/// before those inside it. Contracts see it as its source.
 #[derive(Debug, Drop)]
 pub struct Compiled {
     source: Nodes,
-    statics: Names,
-    dynamics: Seq<Dynamic>,
+    table: Table,
+    nothing: Body,
+    places: usize,
 }
 
 impl Model for Compiled {
-    ghost use Rattle.std.specs.Prelude.{◌≡◌, List, map};
+    ghost use Rattle.std.specs.Prelude.{◌≡◌, List};
     ghost use Rattle.std.specs.Coded.{coded_list, codes};
     ghost use Rattle.ast_core.specs.contracts.node.Node as row;
     ghost use Rattle.ast_core.specs.declared.node.Node.{Node};
-    ghost use Rattle.ast_core.specs.Places.{places_in, cut};
-    ghost use Rattle.slot_compile.specs.Template.{place_of, syntax_of};
+    ghost use Rattle.slot_compile.specs.Gathering.{blank, entries, stretch_of};
+    ghost use Rattle.slot_compile.specs.Numbering.{all_bodies, place_count};
+    ghost use Rattle.slot_compile.specs.Stretches.{of_bodies};
+    ghost use Rattle.slot_compile.specs.Template.{IsPlain, syntax_of};
 
     ghost Value = { List Node };
 
@@ -56,7 +104,7 @@ impl Model for Compiled {
 
     ghost view = { λ c. c.source };
 
-    ghost invariant = { λ c. (cut (syntax_of c.source) ≡ c.statics) × (places_in (syntax_of c.source) ≡ map place_of c.dynamics) };
+    ghost invariant = { λ c. (entries c.table ≡ of_bodies 0 (all_bodies (syntax_of c.source))) × (stretch_of c.nothing ≡ blank) × (c.places ≡ place_count (syntax_of c.source)) × IsPlain c.source };
 }
 
 impl Compiled {
@@ -67,64 +115,88 @@ impl Compiled {
         &self.source
     }
 
-    /// The constant texts: one more than there are dynamics.
-    pub fn statics(&self) -> &[Text]
-        ensures { result.now ≡ cut (syntax_of self.now) }
+    /// How many bodies it has. Their numbers are those below.
+    pub fn count(&self) -> usize
+        ensures { result ≡ length (all_bodies (syntax_of self.now)) }
     {
-        self.statics.as_slice()
+        self.table.bodies.len()
     }
 
-    /// What stands between the constant texts, in document order.
-    pub fn dynamics(&self) -> &[Dynamic]
-        ensures places { map place_of result.now ≡ places_in (syntax_of self.now) }
-        ensures flat { IsFlat self.now }
+    /// How many places all its bodies have together.
+    pub fn places(&self) -> usize
+        ensures { result ≡ place_count (syntax_of self.now) }
     {
-        self.dynamics.as_slice()
+        self.places
+    }
+
+    /// The constant texts of a body: one more than there are dynamics. A number that no body has is that of a body of
+    /// nothing.
+    pub fn statics(&self, number: usize) -> &[Text]
+        ensures { result.now ≡ cut (node_at (syntax_of self.now) number) }
+    {
+        self.body(number).statics.as_slice()
+    }
+
+    /// What stands between the constant texts of a body, in document order.
+    pub fn dynamics(&self, number: usize) -> &[Dynamic]
+        ensures places { map (place_in (syntax_of self.now)) result.now ≡ places_in (node_at (syntax_of self.now) number) }
+        ensures reads { AllReadRight (syntax_of self.now) result.now }
+    {
+        self.body(number).dynamics.as_slice()
+    }
+
+    // The body of a number.
+    fn body(&self, number: usize) -> &Body
+        ensures { IsBodyOf (syntax_of self.now) (node_at (syntax_of self.now) number) result.now }
+    {
+        let bodies = self.table.bodies.as_slice();
+        if number < bodies.len() {
+            &bodies[number]
+        } else {
+            &self.nothing
+        }
     }
 
     /// A law of each compiled template: all its places are of the kinds that are compiled. It does nothing.
-    pub fn places_are_flat(&self)
-        ensures { IsFlat self.now }
+    pub fn places_are_plain(&self)
+        ensures { IsPlain self.now }
     {
-        let _dynamics = self.dynamics();
+        let _places = &self.places;
     }
 }
 
-/// Flattens a template. None where a place has something inside: a block, a call, a slot.
+/// Compiles a template. None where a place is a call, a slot or a stream, wherever it stands.
 pub fn compile(alloc: Global, source: Nodes) -> Result<Option<Compiled>, OutOfMemory>
     ensures { IfOk result (λ c. c ≡ compiled_of source) }
 {
-    match flatten(alloc, &source) {
-        Ok(flattening) => Ok(Some(ended(source, flattening)?)),
+    match table_of(alloc, &source) {
+        Ok(table) => Ok(Some(ended(alloc, source, table)?)),
         Err(CompileFault::NotYet) => Ok(None),
         Err(CompileFault::OutOfMemory) => Err(OutOfMemory),
     }
 }
 
-// All that a template has.
-fn flatten(alloc: Global, source: &Nodes) -> Result<Flattening, CompileFault>
-    ensures ok { IfOk result (λ f. gathered f ≡ of_nodes source.now) }
-    ensures err { GivesUp result (of_nodes source.now) }
+// The bodies of a template.
+fn table_of(alloc: Global, source: &Nodes) -> Result<Table, CompileFault>
+    ensures entries { IfOk result (λ t. entries t ≡ of_bodies 0 (all_bodies (syntax_of source.now))) }
+    ensures judges { Judges result (all_plain (syntax_of source.now)) }
 {
-    let mut flattening = Flattening::new(alloc);
-    flattening.push_nodes(alloc, source)?;
-    Ok(flattening)
+    let mut table = Table::new(alloc);
+    let _whole = table.push_body(alloc, source)?;
+    Ok(table)
 }
 
-// A template with what was gathered from it.
-fn ended(source: Nodes, flattening: Flattening) -> Result<Compiled, OutOfMemory>
-    requires { gathered flattening ≡ of_nodes source }
+// A template with its bodies.
+fn ended(alloc: Global, source: Nodes, table: Table) -> Result<Compiled, OutOfMemory>
+    requires { (entries table ≡ of_bodies 0 (all_bodies (syntax_of source))) × IsPlain source }
     ensures { IfOk result (λ c. c ≡ source) }
 {
-    let Flattening {
-        mut statics,
-        last,
-        dynamics,
-    } = flattening;
-    statics.push(last)?;
+    let nothing = Flattening::new(alloc).ended()?;
+    let places = table.places()?;
     Ok(Compiled {
         source,
-        statics,
-        dynamics,
+        table,
+        nothing,
+        places,
     })
 }

@@ -1,9 +1,13 @@
-//! Copies of expressions.
+//! Copies of expressions and patterns.
 ghost use Rattle.std.specs.Prelude.{◌≡◌, IfOk, map};
 ghost use Rattle.ast_core.specs.ExprView.{expr_view};
-ghost use Rattle.ast_core.specs.NamesIn.{part_view, pair_view, step_view, operand_view, call_view};
+ghost use Rattle.ast_core.specs.PatternView.{pattern_view};
+ghost use Rattle.ast_core.specs.NamesIn.{part_view, pair_view, step_view, operand_view, call_view, pattern_pair_view};
 
-use ast_core::{Expr, Exprs, Operand, Pair, Pairs, Parts, PathStep, PipeCall, TextPart};
+use ast_core::{
+    Expr, Exprs, Operand, Pair, Pairs, Parts, PathStep, Pattern, PatternPair, PatternPairs,
+    Patterns, PipeCall, TextPart,
+};
 use std::alloc::Global;
 use text_core::{OutOfMemory, Seq};
 
@@ -162,4 +166,55 @@ fn copy_calls(alloc: Global, calls: &Seq<PipeCall>) -> Result<Seq<PipeCall>, Out
         })?;
     }
     Ok(copies)
+}
+
+/// A pattern that means the same.
+#[cycle(pattern)]
+pub(crate) fn copy_pattern(alloc: Global, pattern: &Pattern) -> Result<Pattern, OutOfMemory>
+    ensures { IfOk result (λ p. pattern_view p ≡ pattern_view pattern.now) }
+{
+    match pattern {
+        Pattern::Any => Ok(Pattern::Any),
+        Pattern::Name(name) => Ok(Pattern::Name(name.copy(alloc)?)),
+        Pattern::Number(number) => Ok(Pattern::Number(*number)),
+        Pattern::Text(text) => Ok(Pattern::Text(text.copy(alloc)?)),
+        Pattern::Atom(name) => Ok(Pattern::Atom(name.copy(alloc)?)),
+        Pattern::Nil => Ok(Pattern::Nil),
+        Pattern::Bool(truth) => Ok(Pattern::Bool(*truth)),
+        Pattern::Tuple(items) => Ok(Pattern::Tuple(copy_patterns(alloc, items)?)),
+        Pattern::List(items) => Ok(Pattern::List(copy_patterns(alloc, items)?)),
+        Pattern::Map(pairs) => Ok(Pattern::Map(copy_keys(alloc, pairs)?)),
+    }
+}
+
+#[cycle(pattern)]
+fn copy_patterns(alloc: Global, patterns: &Patterns) -> Result<Patterns, OutOfMemory>
+    ensures { IfOk result (λ ps. map pattern_view ps ≡ map pattern_view patterns.now) }
+{
+    let mut copies = Seq::new(alloc);
+    'patterns: for pattern in patterns.as_slice() {
+        copies.push(copy_pattern(alloc, pattern)?)?;
+    }
+    Ok(copies)
+}
+
+#[cycle(pattern)]
+fn copy_keys(alloc: Global, pairs: &PatternPairs) -> Result<PatternPairs, OutOfMemory>
+    ensures { IfOk result (λ ps. map pattern_pair_view ps ≡ map pattern_pair_view pairs.now) }
+{
+    let mut copies = Seq::new(alloc);
+    'pairs: for pair in pairs.as_slice() {
+        copies.push(copy_key(alloc, pair)?)?;
+    }
+    Ok(copies)
+}
+
+#[cycle(pattern)]
+fn copy_key(alloc: Global, pair: &PatternPair) -> Result<PatternPair, OutOfMemory>
+    ensures { IfOk result (λ p. pattern_pair_view p ≡ pattern_pair_view pair.now) }
+{
+    Ok(PatternPair {
+        key: pair.key.copy(alloc)?,
+        pattern: copy_pattern(alloc, &pair.pattern)?,
+    })
 }

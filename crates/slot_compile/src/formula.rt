@@ -2,18 +2,18 @@
 ghost use Rattle.std.specs.Prelude.{◌≡◌, IfOk, codes};
 ghost use Rattle.ast_core.specs.ExprView.{expr_view};
 ghost use Rattle.ast_core.specs.Free.{free_names, one_of};
-ghost use Rattle.ast_core.specs.Reads.{assigns_in};
+ghost use Rattle.ast_core.specs.Reads.{assigns_in, variables_in};
 
-use ast_core::{Expr, assigns_read};
+use ast_core::{Expr, Reads, expr_reads};
 use std::alloc::Global;
 use std::marker::Model;
-use text_core::{Names, OutOfMemory, Text};
+use text_core::{OutOfMemory, Text};
 
-/// An expression with the assigns that it reads, which contracts see as the expression.
+/// An expression with the names that it reads, which contracts see as the expression.
 #[derive(Debug, Drop)]
 pub struct Formula {
     expr: Expr,
-    reads: Names,
+    reads: Reads,
 }
 
 impl Model for Formula {
@@ -23,7 +23,7 @@ impl Model for Formula {
     ghost use Rattle.ast_core.specs.declared.expr.Expr.{Expr};
     ghost use Rattle.ast_core.specs.ExprView.{expr_view};
     ghost use Rattle.ast_core.specs.Free.{free_names};
-    ghost use Rattle.ast_core.specs.Reads.{assigns_in};
+    ghost use Rattle.ast_core.specs.Reads.{assigns_in, variables_in};
 
     ghost Value = { Expr };
 
@@ -31,7 +31,7 @@ impl Model for Formula {
 
     ghost view = { λ f. f.expr };
 
-    ghost invariant = { λ f. f.reads ≡ assigns_in (free_names (expr_view f.expr)) };
+    ghost invariant = { λ f. (f.reads.assigns ≡ assigns_in (free_names (expr_view f.expr))) × (f.reads.variables ≡ variables_in (free_names (expr_view f.expr))) };
 }
 
 impl Formula {
@@ -39,7 +39,7 @@ impl Formula {
     pub fn of(alloc: Global, expr: Expr) -> Result<Formula, OutOfMemory>
         ensures { IfOk result (λ f. f ≡ expr) }
     {
-        let reads = assigns_read(alloc, &expr)?;
+        let reads = expr_reads(alloc, &expr)?;
         Ok(Formula { expr, reads })
     }
 
@@ -50,18 +50,19 @@ impl Formula {
         &self.expr
     }
 
-    /// The assigns that it reads, in byte order, none twice.
-    pub fn reads(&self) -> &[Text]
-        ensures { result.now ≡ assigns_in (free_names (expr_view self.now)) }
+    /// The assigns and the variables that it reads, each in byte order, none twice.
+    pub fn reads(&self) -> &Reads
+        ensures assigns { result.now.assigns ≡ assigns_in (free_names (expr_view self.now)) }
+        ensures variables { result.now.variables ≡ variables_in (free_names (expr_view self.now)) }
     {
-        self.reads.as_slice()
+        &self.reads
     }
 
     /// Whether it reads this assign.
     pub fn reads_assign(&self, name: &str) -> bool
         ensures { result ≡ one_of name.now (assigns_in (free_names (expr_view self.now))) }
     {
-        is_one_of(name, self.reads())
+        is_one_of(name, self.reads().assigns.as_slice())
     }
 }
 

@@ -1,13 +1,12 @@
-//! Templates, flattened into constant texts and what changes between them.
+//! Templates, compiled into numbered bodies of constant texts and what changes between them.
 #![tactic(auto)]
 
+mod bodies;
 mod compiled;
 mod copying;
 mod flattening;
 mod formula;
-#[cfg(test)]
-mod tests;
 mod walk;
 
-pub use compiled::{Compiled, Dynamic, compile};
+pub use compiled::{Branch, Compiled, Dynamic, compile};
 pub use formula::Formula;

@@ -1,81 +1,22 @@
-//! The way over a template, from its first node to its last.
-ghost use Rattle.std.specs.Prelude.{◌≡◌, [], ◌∷◌, ◌++◌, IfOk, OnOk, codes};
+//! Texts, attributes and interpolations, gathered.
+ghost use Rattle.std.specs.Prelude.{◌≡◌, ◌∷◌, ◌++◌, IfOk, OnOk, codes};
 ghost use Rattle.ast_core.specs.ExprView.{expr_view};
-ghost use Rattle.ast_core.specs.NodeView.{place_view};
 ghost use Rattle.ast_core.specs.Places.{closing, opening};
-ghost use Rattle.ast_core.specs.Syntax.{attribute as attribute_place, put, spread};
-ghost use Rattle.slot_compile.specs.Gathering.{GivesUp, gathered, hole, text, then_on};
-ghost use Rattle.slot_compile.specs.Stretches.{of_attribute, of_attributes, of_node, of_nodes};
+ghost use Rattle.ast_core.specs.Syntax.{attribute as attribute_place, spread};
+ghost use Rattle.slot_compile.specs.Gathering.{alone, gathered, hole, text, then_on};
+ghost use Rattle.slot_compile.specs.Stretches.{of_attribute, of_attributes};
 
 use crate::copying::copy_expr;
-use crate::flattening::{CompileFault, Flattening};
+use crate::flattening::Flattening;
 use crate::{Dynamic, Formula};
-use ast_core::{Attribute, AttributeValue, Attributes, Expr, Node, Nodes, Place};
+use ast_core::{Attribute, AttributeValue, Attributes, Expr};
 use heex_token::is_void;
 use std::alloc::Global;
 use text_core::{OutOfMemory, Text};
 
 impl Flattening {
-    // The nodes of a template, in order.
-    #[cycle(node)]
-    pub fn push_nodes(&mut self, alloc: Global, nodes: &Nodes) -> Result<(), CompileFault>
-        ensures ok { OnOk result (gathered self.new ≡ then_on (gathered self.old) (of_nodes nodes.now)) }
-        ensures err { GivesUp result (of_nodes nodes.now) }
-    {
-        'nodes: for node in nodes.as_slice() {
-            self.push_node(alloc, node)?;
-        }
-        Ok(())
-    }
-
-    #[cycle(node)]
-    fn push_node(&mut self, alloc: Global, node: &Node) -> Result<(), CompileFault>
-        ensures ok { OnOk result (gathered self.new ≡ then_on (gathered self.old) (of_node node.now)) }
-        ensures err { GivesUp result (of_node node.now) }
-    {
-        match node {
-            Node::Text(text) => {
-                self.push_text(text.as_str())?;
-                Ok(())
-            }
-            Node::Element {
-                at: _,
-                name,
-                attributes,
-                children,
-            } => {
-                self.push_start(alloc, name, attributes)?;
-                self.push_nodes(alloc, children)?;
-                self.push_end(name)?;
-                Ok(())
-            }
-            Node::Place { at: _, place } => self.push_place(alloc, place),
-        }
-    }
-
-    // A place without anything inside.
-    fn push_place(&mut self, alloc: Global, place: &Place) -> Result<(), CompileFault>
-        ensures ok { OnOk result (gathered self.new ≡ then_on (gathered self.old) (hole (place_view place.now))) }
-        ensures err { GivesUp result (hole (place_view place.now)) }
-    {
-        match place {
-            Place::Put(expr) => {
-                self.push_put(alloc, expr)?;
-                Ok(())
-            }
-            _ => Err(CompileFault::NotYet),
-        }
-    }
-
-    fn push_put(&mut self, alloc: Global, expr: &Expr) -> Result<(), OutOfMemory>
-        ensures { OnOk result (gathered self.new ≡ then_on (gathered self.old) (hole (put (expr_view expr.now)))) }
-    {
-        let value = formula_of(alloc, expr)?;
-        self.push_dynamic(alloc, Dynamic::Put(value))
-    }
-
     // The start tag of an element.
-    fn push_start(
+    pub fn push_start(
         &mut self,
         alloc: Global,
         name: &Text,
@@ -90,7 +31,7 @@ impl Flattening {
     }
 
     // The end tag of an element that has one.
-    fn push_end(&mut self, name: &Text) -> Result<(), OutOfMemory>
+    pub fn push_end(&mut self, name: &Text) -> Result<(), OutOfMemory>
         ensures { OnOk result (gathered self.new ≡ then_on (gathered self.old) (text (closing name.now))) }
     {
         if is_void(name.as_str()) {
@@ -143,7 +84,7 @@ impl Flattening {
     }
 
     fn push_valued(&mut self, alloc: Global, name: &Text, expr: &Expr) -> Result<(), OutOfMemory>
-        ensures { OnOk result (gathered self.new ≡ then_on (gathered self.old) (hole (attribute_place name.now (expr_view expr.now)))) }
+        ensures { OnOk result (gathered self.new ≡ then_on (gathered self.old) (hole (alone (attribute_place name.now (expr_view expr.now))))) }
     {
         let name = name.copy(alloc)?;
         let value = formula_of(alloc, expr)?;
@@ -151,15 +92,15 @@ impl Flattening {
     }
 
     fn push_spread(&mut self, alloc: Global, expr: &Expr) -> Result<(), OutOfMemory>
-        ensures { OnOk result (gathered self.new ≡ then_on (gathered self.old) (hole (spread (expr_view expr.now)))) }
+        ensures { OnOk result (gathered self.new ≡ then_on (gathered self.old) (hole (alone (spread (expr_view expr.now))))) }
     {
         let value = formula_of(alloc, expr)?;
         self.push_dynamic(alloc, Dynamic::Spread(value))
     }
 }
 
-// The formula of an expression that stays where it is.
-fn formula_of(alloc: Global, expr: &Expr) -> Result<Formula, OutOfMemory>
+/// The formula of an expression that stays where it is.
+pub(crate) fn formula_of(alloc: Global, expr: &Expr) -> Result<Formula, OutOfMemory>
     ensures { IfOk result (λ f. expr_view f ≡ expr_view expr.now) }
 {
     Formula::of(alloc, copy_expr(alloc, expr)?)

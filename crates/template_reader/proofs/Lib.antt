@@ -1,3 +1,4 @@
 pub mod Formulas
 pub mod Readings
+pub mod Streams
 pub mod Taking

@@ -1,12 +1,10 @@
--- Templates that the program takes so far: texts, elements, interpolations, attributes and spreads that do not read the
--- streams.
+-- Templates that the program takes so far: texts, elements, interpolations, attributes, spreads, conditions, cases and
+-- loops, in which nothing reads the streams.
 use Rattle.std.specs.Prelude.{◌≡◌, ◌↔◌, ℕ, List, length, codes, Bool, true, not, ◌&&◌, nat_lt, Option, Some, None, Result, Ok, Err, if◌then◌else◌}
-use Rattle.std.specs.List.{list_all}
-use Rattle.ast_core.specs.Syntax.{Place, Nodes}
-use Rattle.ast_core.specs.Free.{free_place, one_of}
-use Rattle.ast_core.specs.Places.{places_in}
+use Rattle.ast_core.specs.Syntax.{Nodes}
+use Rattle.ast_core.specs.Free.{free_nodes, one_of}
 use Rattle.ast_core.specs.Reads.{assigns_in}
-use Rattle.slot_compile.specs.Template.{is_flat}
+use Rattle.slot_compile.specs.Template.{all_plain}
 use Rattle.heex_reader.specs.Reading as heex
 use Rattle.heex_reader.specs.Reading.{Refusal}
 
@@ -14,15 +12,13 @@ use Rattle.heex_reader.specs.Reading.{Refusal}
 abbrev pub fits : List ℕ → Bool
 fits text = nat_lt (length text) 4294967295
 
-abbrev pub reads_streams : Place → Bool
-reads_streams p = one_of (codes "streams") (assigns_in (free_place p))
+-- the streams are among the assigns that nodes read, also inside their bodies
+abbrev pub reads_streams : Nodes → Bool
+reads_streams ns = one_of (codes "streams") (assigns_in (free_nodes ns))
 
-abbrev pub is_taken : Place → Bool
-is_taken p = is_flat p && not (reads_streams p)
-
--- the program takes all places of these nodes
+-- the program takes these nodes
 abbrev pub all_taken : Nodes → Bool
-all_taken ns = list_all is_taken (places_in ns)
+all_taken ns = not (reads_streams ns) && all_plain ns
 
 -- a text spells a template that the program takes
 abbrev pub SpellsTemplate : List ℕ → Nodes → Type 0

@@ -4,8 +4,6 @@
 mod formula;
 mod laws;
 mod template;
-#[cfg(test)]
-mod tests;
 
 pub use formula::read_formula;
 pub use laws::{formulas_are_spelled, templates_are_spelled};

@@ -1,54 +1,64 @@
 //! The reader of templates.
-ghost use Rattle.std.specs.Prelude.{◌≡◌, IfOk, not, option_map};
-ghost use Rattle.std.specs.List.{list_all};
-ghost use Rattle.ast_core.specs.NodeView.{nodes_view};
-ghost use Rattle.slot_compile.specs.Template.{place_of, syntax_of};
+ghost use Rattle.std.specs.Prelude.{◌≡◌, IfOk, codes, option_map};
+ghost use Rattle.ast_core.specs.Free.{free_node, one_of};
+ghost use Rattle.ast_core.specs.NodeView.{node_view, nodes_view};
+ghost use Rattle.ast_core.specs.Reads.{assigns_in};
+ghost use Rattle.slot_compile.specs.Template.{syntax_of};
 ghost use Rattle.template_reader.specs.Reading.{reads_streams, taken, template_of};
 
-use ast_core::Nodes;
+use ast_core::{Node, Nodes, reads};
 use heex_reader::TemplateFault;
-use slot_compile::{Compiled, Dynamic, compile};
+use slot_compile::{Compiled, compile};
 use std::alloc::Global;
-use text_core::OutOfMemory;
+use text_core::{OutOfMemory, Text};
 
 // A template's text has fewer bytes: lines and columns are counted in 32 bits.
 const TOO_LONG: usize = 4_294_967_295;
 
-fn reads_streams(dynamic: &Dynamic) -> bool
-    ensures { result ≡ reads_streams (place_of dynamic.now) }
+fn is_one_of(name: &str, names: &[Text]) -> bool
+    ensures { result ≡ one_of name.now names.now }
 {
-    match dynamic {
-        Dynamic::Put(value) => value.reads_assign("streams"),
-        Dynamic::Attribute { name: _, value } => value.reads_assign("streams"),
-        Dynamic::Spread(value) => value.reads_assign("streams"),
+    for other in names {
+        if name == other.as_str() {
+            return true;
+        }
     }
+    false
 }
 
-// Whether no place reads the streams.
-fn lacks_streams(dynamics: &[Dynamic]) -> bool
-    ensures { result ≡ list_all (λ d. not (reads_streams (place_of d))) dynamics.now }
+// Whether a node reads the streams.
+fn node_reads(alloc: Global, node: &Node) -> Result<bool, OutOfMemory>
+    ensures { IfOk result (λ found. found ≡ one_of (codes "streams") (assigns_in (free_node (node_view node.now)))) }
 {
-    dynamics.iter().all(|dynamic| !reads_streams(dynamic))
+    let found = reads(alloc, node)?;
+    Ok(is_one_of("streams", found.assigns.as_slice()))
+}
+
+// Whether nodes read the streams, also in the bodies inside them.
+fn reads_streams(alloc: Global, nodes: &Nodes) -> Result<bool, OutOfMemory>
+    ensures { IfOk result (λ found. found ≡ reads_streams (nodes_view nodes.now)) }
+{
+    'nodes: for node in nodes.as_slice() {
+        if node_reads(alloc, node)? {
+            return Ok(true);
+        }
+    }
+    Ok(false)
 }
 
 // A template, if the program takes it.
 fn taken(alloc: Global, nodes: Nodes) -> Result<Option<Compiled>, OutOfMemory>
     ensures { IfOk result (λ c. option_map syntax_of c ≡ taken (nodes_view nodes)) }
 {
-    match compile(alloc, nodes)? {
-        Some(compiled) => {
-            if lacks_streams(compiled.dynamics()) {
-                Ok(Some(compiled))
-            } else {
-                Ok(None)
-            }
-        }
-        None => Ok(None),
+    if reads_streams(alloc, &nodes)? {
+        return Ok(None);
     }
+    compile(alloc, nodes)
 }
 
-/// Reads a template of texts, elements, interpolations, attributes and spreads that do not read the streams. None where
-/// the text is refused, has 4,294,967,295 bytes or more, or spells a template of other nodes.
+/// Reads a template of texts, elements, interpolations, attributes, spreads, conditions, cases and loops, in which
+/// nothing reads the streams. None where the text is refused, has 4,294,967,295 bytes or more, or spells a template of
+/// other nodes.
 pub fn read_template(alloc: Global, text: &str) -> Result<Option<Compiled>, OutOfMemory>
     ensures { IfOk result (λ c. option_map syntax_of c ≡ template_of text.now) }
 {

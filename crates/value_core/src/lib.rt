@@ -8,8 +8,6 @@ mod nesting;
 mod printing;
 mod raise;
 mod reading;
-#[cfg(test)]
-mod tests;
 mod value;
 mod writing;
 

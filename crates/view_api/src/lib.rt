@@ -3,8 +3,6 @@
 
 mod effect;
 mod greeting;
-#[cfg(test)]
-mod tests;
 mod views;
 
 pub use effect::{Effect, Effects};

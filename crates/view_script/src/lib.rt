@@ -2,8 +2,6 @@
 #![tactic(auto)]
 
 mod script;
-#[cfg(test)]
-mod tests;
 mod views;
 
 pub use views::ScriptViews;

@@ -1,32 +1,16 @@
 -- The JSON values of frames.
-use Rattle.std.specs.Prelude.{◌≡◌, ℕ, List, map, Bool, true, codes}
+use Rattle.std.specs.Prelude.{◌≡◌, ℕ, List, Bool, true, codes}
 use Rattle.serde_json.specs.Data.{Data, string, array, object, no_items, item, no_members, put}
-use Rattle.serde_json.specs.View.{view}
 use Rattle.diff_tree.specs.Frame.{reference_json, one_member, reply, fault_json}
-use Rattle.diff_tree.specs.Spelling.{Pushed, with_events, members_of}
 use Rattle.diff_tree.specs.Grammar.{is_diff}
 use Rattle.diff_tree.specs.Parts.{diff_data}
-use Rattle.diff_tree.specs.declared.part.Diff.{Diff}
-use Rattle.wire_v2.specs.declared.push.Push.{Push}
 use Rattle.wire_v2.specs.declared.frame.Frame.{Frame}
 use Rattle.wire_v2.specs.declared.frame.FrameBody.{FrameBody}
 use Rattle.wire_v2.specs.declared.frame.FrameBody.TheVariants as body
 
--- a pushed event: its name, and its payload
-abbrev pub pushed_of : Push → Pushed
-pushed_of e = (e.name, view e.payload)
-
--- an array of the name and the payload
-abbrev pub push_data : Push → Data
-push_data e = array (item (string e.name) (item (view e.payload) no_items))
-
--- a tree or a diff, with `e` where there are pushed events
-abbrev pub page_data : Diff → List Push → Data
-page_data d es = object (with_events (map pushed_of es) (members_of (diff_data d)))
-
 -- the fourth item of a frame
 abbrev pub event_name : FrameBody → List ℕ
-event_name (body.Pushed d es) = codes "diff"
+event_name (body.Pushed d) = codes "diff"
 event_name body.Closed = codes "phx_close"
 event_name (body.Faulted reason) = codes "phx_error"
 event_name _ = codes "phx_reply"
@@ -34,19 +18,19 @@ event_name _ = codes "phx_reply"
 -- the fifth item of a frame
 abbrev pub payload_data : FrameBody → Data
 payload_data body.Empty = reply (codes "ok") (object no_members)
-payload_data (body.Rendered t es) = reply (codes "ok") (one_member (codes "rendered") (page_data t es))
-payload_data (body.Changed d es) = reply (codes "ok") (one_member (codes "diff") (page_data d es))
+payload_data (body.Rendered t) = reply (codes "ok") (one_member (codes "rendered") (diff_data t))
+payload_data (body.Changed d) = reply (codes "ok") (one_member (codes "diff") (diff_data d))
 payload_data (body.Refusal reason) = reply (codes "error") (one_member (codes "reason") (string reason))
 payload_data body.NoCids = reply (codes "ok") (one_member (codes "cids") (array no_items))
-payload_data (body.Pushed d es) = page_data d es
+payload_data (body.Pushed d) = diff_data d
 payload_data body.Closed = object no_members
 payload_data (body.Faulted reason) = fault_json reason
 
 -- what a body carries of a page is a diff
 abbrev pub carries_diff : FrameBody → Bool
-carries_diff (body.Rendered t es) = is_diff (diff_data t)
-carries_diff (body.Changed d es) = is_diff (diff_data d)
-carries_diff (body.Pushed d es) = is_diff (diff_data d)
+carries_diff (body.Rendered t) = is_diff (diff_data t)
+carries_diff (body.Changed d) = is_diff (diff_data d)
+carries_diff (body.Pushed d) = is_diff (diff_data d)
 carries_diff _ = true
 
 -- a body has this event and this payload

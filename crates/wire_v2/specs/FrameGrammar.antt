@@ -1,10 +1,9 @@
 -- Which JSON values are frames. The order of members in a text is lost when it is read: an object has its members in the order of their keys.
-use Rattle.std.specs.Prelude.{◌≡◌, ℕ, List, Option, Some, None, is_some, Bool, true, false, not, ◌&&◌, if◌then◌else◌, codes}
+use Rattle.std.specs.Prelude.{◌≡◌, ℕ, List, Option, Some, None, is_some, Bool, true, false, ◌&&◌, if◌then◌else◌, codes}
 use Rattle.std.specs.Str.{bytes_eq, is_utf8}
 use Rattle.serde_json.specs.Data.{Data, null, string, array, object, Items, no_items, item, Members, no_members, member}
-use Rattle.serde_json.specs.Find.{get, get_member}
+use Rattle.serde_json.specs.Find.{get_member}
 use Rattle.serde_json.specs.Read.{read}
-use Rattle.serde_json.specs.Written.{has_float}
 use Rattle.diff_tree.specs.Grammar.{is_diff}
 use Rattle.wire_v2.specs.Message.{head_of}
 
@@ -34,51 +33,47 @@ abbrev pub is_empty_object : Data → Bool
 is_empty_object (object no_members) = true
 is_empty_object _ = false
 
--- ---- pushed events
+-- ---- trees
 
--- a name and a payload, whose numbers are whole
-abbrev pub is_event : Data → Bool
-is_event (array (item (string name) (item payload no_items))) = not (has_float payload)
-is_event _ = false
-
-abbrev pub are_events : Items → Bool
-are_events no_items = true
-are_events (item d ds) = is_event d && are_events ds
-
--- `e` has events where it stands
-abbrev pub events_fit : Option Data → Bool
-events_fit None = true
-events_fit (Some (array (item d ds))) = are_events (item d ds)
-events_fit (Some _) = false
-
--- ---- trees and diffs
-
--- the members but `e`
-abbrev pub plain_members : Members → Members
-plain_members no_members = no_members
-plain_members (member k d ms) = if bytes_eq k (codes "e") then plain_members ms else member k d (plain_members ms)
-
-abbrev pub without_events : Data → Data
-without_events (object ms) = object (plain_members ms)
-without_events d = d
-
--- a diff, with `e` where there are events
-abbrev pub is_page : Data → Bool
-is_page d = events_fit (get (codes "e") d) && is_diff (without_events d)
-
--- each node has its statics
+-- each node has its statics, rows included; under other keys there are no nodes
 abbrev mutual
-  pub is_whole : Data → Bool
-  is_whole (object ms) = is_some (get_member (codes "s") ms) && are_whole ms
-  is_whole _ = true
+  pub is_whole_node : Data → Bool
+  is_whole_node (object ms) = is_some (get_member (codes "s") ms) && are_whole ms
+  is_whole_node (array ds) = items_are_whole ds
+  is_whole_node _ = true
 
   pub are_whole : Members → Bool
   are_whole no_members = true
-  are_whole (member k d ms) = is_whole d && are_whole ms
+  are_whole (member k d ms) = is_whole_node d && are_whole ms
 
--- a diff that is whole, with `e` where there are events
+  pub items_are_whole : Items → Bool
+  items_are_whole no_items = true
+  items_are_whole (item d ds) = is_whole_node d && items_are_whole ds
+
+-- the nodes of components
+abbrev pub components_are_whole : Data → Bool
+components_are_whole (object ms) = are_whole ms
+components_are_whole _ = true
+
+-- what stands under a key of a page; pushed events have no nodes
+abbrev pub is_whole_at : List ℕ → Data → Bool
+is_whole_at k d =
+    if bytes_eq k (codes "e") then true
+    else if bytes_eq k (codes "c") then components_are_whole d
+    else is_whole_node d
+
+abbrev pub all_whole : Members → Bool
+all_whole no_members = true
+all_whole (member k d ms) = is_whole_at k d && all_whole ms
+
+-- the root has its statics, and each node inside, and in the components
+abbrev pub is_whole : Data → Bool
+is_whole (object ms) = is_some (get_member (codes "s") ms) && all_whole ms
+is_whole _ = true
+
+-- a diff that is whole
 abbrev pub is_tree : Data → Bool
-is_tree d = is_whole d && is_page d
+is_tree d = is_whole d && is_diff d
 
 -- ---- bodies
 
@@ -92,7 +87,7 @@ abbrev pub is_content : Option (List ℕ × Data) → Bool
 is_content None = false
 is_content (Some m) =
     if bytes_eq m.0 (codes "rendered") then is_tree m.1
-    else if bytes_eq m.0 (codes "diff") then is_page m.1
+    else if bytes_eq m.0 (codes "diff") then is_diff m.1
     else bytes_eq m.0 (codes "cids") && is_empty_list m.1
 
 -- the response of a reply that is `ok`
@@ -119,7 +114,7 @@ is_fault d = if is_empty_object d then true else is_reason (only_member d)
 abbrev pub is_body : List ℕ → Data → Data → Bool
 is_body event reference payload =
     if bytes_eq event (codes "phx_reply") then is_reply (two_members payload)
-    else if bytes_eq event (codes "diff") then is_null reference && is_page payload
+    else if bytes_eq event (codes "diff") then is_null reference && is_diff payload
     else if bytes_eq event (codes "phx_close") then is_empty_object payload
     else bytes_eq event (codes "phx_error") && is_fault payload
 

@@ -1,11 +1,11 @@
 -- The program's frames beside the frames of the definitions.
-use Rattle.std.specs.Prelude.{◌≡◌, ℕ, List, [], map, Option, is_none, Bool, true, ◌&&◌}
+use Rattle.std.specs.Prelude.{◌≡◌, ℕ, List, Option, is_none, Bool, true, ◌&&◌}
 use Rattle.diff_tree.specs.Client.{PageTree, PageDiff}
 use Rattle.diff_tree.specs.Frame as model
-use Rattle.diff_tree.specs.Spelling.{page_tree_json, page_diff_json}
+use Rattle.diff_tree.specs.Spelling.{Pushed, page_tree_json, page_diff_json}
 use Rattle.diff_tree.specs.Grammar.{is_diff}
 use Rattle.diff_tree.specs.Parts.{diff_data}
-use Rattle.wire_v2.specs.FrameData.{pushed_of, frame_data}
+use Rattle.wire_v2.specs.FrameData.{frame_data}
 use Rattle.wire_v2.specs.FrameGrammar.{is_whole}
 use Rattle.wire_v2.specs.declared.frame.Frame.{Frame}
 use Rattle.wire_v2.specs.declared.frame.FrameBody.{FrameBody}
@@ -14,11 +14,11 @@ use Rattle.wire_v2.specs.declared.frame.FrameBody.TheVariants as body
 -- the same form; a tree or a diff is one by its JSON value
 abbrev pub BodyStandsFor : FrameBody → model.FrameBody → Type 0
 BodyStandsFor body.Empty b = b ≡ model.empty
-BodyStandsFor (body.Rendered t es) b = (p : PageTree) × (diff_data t ≡ page_tree_json p []) × (b ≡ model.rendered p (map pushed_of es))
-BodyStandsFor (body.Changed d es) b = (p : PageDiff) × (diff_data d ≡ page_diff_json p []) × (b ≡ model.changed p (map pushed_of es))
+BodyStandsFor (body.Rendered t) b = (p : PageTree) × (es : List Pushed) × (diff_data t ≡ page_tree_json p es) × (b ≡ model.rendered p es)
+BodyStandsFor (body.Changed d) b = (p : PageDiff) × (es : List Pushed) × (diff_data d ≡ page_diff_json p es) × (b ≡ model.changed p es)
 BodyStandsFor (body.Refusal reason) b = b ≡ model.refusal reason
 BodyStandsFor body.NoCids b = b ≡ model.no_cids
-BodyStandsFor (body.Pushed d es) b = (p : PageDiff) × (diff_data d ≡ page_diff_json p []) × (b ≡ model.push p (map pushed_of es))
+BodyStandsFor (body.Pushed d) b = (p : PageDiff) × (es : List Pushed) × (diff_data d ≡ page_diff_json p es) × (b ≡ model.push p es)
 BodyStandsFor body.Closed b = b ≡ model.closed
 BodyStandsFor (body.Faulted reason) b = b ≡ model.faulted reason
 
@@ -31,7 +31,7 @@ FramesAgree = (f : Frame) (g : model.Frame) → StandsFor f g → frame_data f �
 
 -- a tree is whole, a diff is one, and a diff that answers no message has no reference
 abbrev pub body_fits : Option (List ℕ) → FrameBody → Bool
-body_fits reference (body.Rendered t es) = is_whole (diff_data t) && is_diff (diff_data t)
-body_fits reference (body.Changed d es) = is_diff (diff_data d)
-body_fits reference (body.Pushed d es) = is_none reference && is_diff (diff_data d)
+body_fits reference (body.Rendered t) = is_whole (diff_data t) && is_diff (diff_data t)
+body_fits reference (body.Changed d) = is_diff (diff_data d)
+body_fits reference (body.Pushed d) = is_none reference && is_diff (diff_data d)
 body_fits reference _ = true

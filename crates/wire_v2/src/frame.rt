@@ -1,5 +1,4 @@
 //! The frames that a process sends.
-use crate::push::Pushes;
 use diff_tree::Diff;
 use text_core::Text;
 
@@ -17,16 +16,16 @@ pub struct Frame {
 pub enum FrameBody {
     /// A reply with nothing.
     Empty,
-    /// A reply with the whole tree of the page.
-    Rendered { tree: Diff, events: Pushes },
+    /// A reply with the whole tree of a page.
+    Rendered(Diff),
     /// A reply with a diff.
-    Changed { diff: Diff, events: Pushes },
+    Changed(Diff),
     /// An error reply with its reason.
     Refusal(Text),
     /// The reply to `cids_destroyed`.
     NoCids,
     /// A diff that answers no message.
-    Pushed { diff: Diff, events: Pushes },
+    Pushed(Diff),
     /// `phx_close`.
     Closed,
     /// `phx_error`, with its reason where it has one.

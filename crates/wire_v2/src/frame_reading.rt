@@ -3,9 +3,10 @@ ghost use Rattle.std.specs.Prelude.{◌≡◌, ◌&&◌, true, false, Some, is_s
 ghost use Rattle.serde_json.specs.Data.{Data, string, array};
 ghost use Rattle.serde_json.specs.View.{view, items_view};
 ghost use Rattle.diff_tree.specs.Frame.{one_member, reply};
+ghost use Rattle.diff_tree.specs.Grammar.{is_diff};
 ghost use Rattle.wire_v2.specs.FrameData.{IsBody, reply_under, event_name, payload_data, framed, frame_data, carries_diff};
 ghost use Rattle.wire_v2.specs.Message.{head_of};
-ghost use Rattle.wire_v2.specs.FrameGrammar.{only_member, two_members, is_null, is_empty_object, is_empty_list, is_page, is_reason, is_content, is_response, is_reply_of, is_reply, is_fault, is_body, is_frame, SpellsFrame};
+ghost use Rattle.wire_v2.specs.FrameGrammar.{only_member, two_members, is_null, is_empty_object, is_empty_list, is_reason, is_content, is_response, is_reply_of, is_reply, is_fault, is_body, is_frame, SpellsFrame};
 
 use crate::frame::{Frame, FrameBody};
 use crate::head::{MessageHead, head_of};
@@ -81,14 +82,8 @@ fn read_content(alloc: Global, key: &str, content: &Json) -> Result<FrameBody, M
     ensures malformed { IsErrOf result MessageFault.Malformed → is_content (Some (key.now, view content.now)) ≡ false }
 {
     match key {
-        "rendered" => {
-            let (tree, events) = read_tree(alloc, content)?;
-            Ok(FrameBody::Rendered { tree, events })
-        }
-        "diff" => {
-            let (diff, events) = read_page(alloc, content)?;
-            Ok(FrameBody::Changed { diff, events })
-        }
+        "rendered" => Ok(FrameBody::Rendered(read_tree(alloc, content)?)),
+        "diff" => Ok(FrameBody::Changed(read_page(alloc, content)?)),
         "cids" => if is_empty_list(content) {
             Ok(FrameBody::NoCids)
         } else {
@@ -143,14 +138,13 @@ fn read_reply(alloc: Global, payload: &Json) -> Result<FrameBody, MessageFault>
 
 // A diff that answers no message has no reference.
 fn read_push(alloc: Global, reference: &Json, payload: &Json) -> Result<FrameBody, MessageFault>
-    ensures ok { IfOk result (λ b. ((is_null (view reference.now) && is_page (view payload.now)) ≡ true) × IsBody (codes "diff") (view payload.now) b) }
-    ensures malformed { IsErrOf result MessageFault.Malformed → (is_null (view reference.now) && is_page (view payload.now)) ≡ false }
+    ensures ok { IfOk result (λ b. ((is_null (view reference.now) && is_diff (view payload.now)) ≡ true) × IsBody (codes "diff") (view payload.now) b) }
+    ensures malformed { IsErrOf result MessageFault.Malformed → (is_null (view reference.now) && is_diff (view payload.now)) ≡ false }
 {
     if !reference.is_null() {
         return Err(MessageFault::Malformed);
     }
-    let (diff, events) = read_page(alloc, payload)?;
-    Ok(FrameBody::Pushed { diff, events })
+    Ok(FrameBody::Pushed(read_page(alloc, payload)?))
 }
 
 fn read_close(payload: &Json) -> Result<FrameBody, MessageFault>
@@ -269,9 +263,8 @@ fn frame_of_json(alloc: Global, json: &Json) -> Result<Frame, MessageFault>
 /// The frame that the bytes spell: a JSON text in UTF-8, an array of join reference and reference
 /// (each a text or null), topic, event and payload, whose members are exactly those of one kind of
 /// frame (Phoenix Channels V2). White space and the order of members do not matter. A tree has
-/// statics in each of its nodes, a diff that answers no message has no reference, and the payload of
-/// a pushed event has no number with a fraction or an exponent. What it carries of a page is a diff
-/// without `e`. It answers Malformed exactly where the bytes spell no frame.
+/// statics in each of its nodes, a diff that answers no message has no reference, and what a frame
+/// carries of a page is a diff. It answers Malformed exactly where the bytes spell no frame.
 pub fn read_frame(alloc: Global, text: &[u8]) -> Result<Frame, MessageFault>
     ensures ok { IfOk result (λ f. SpellsFrame text.now (frame_data f)) }
     ensures carries { IfOk result (λ f. carries_diff f.body ≡ true) }

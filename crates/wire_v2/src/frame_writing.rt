@@ -1,17 +1,15 @@
 //! Frames written as compact JSON (RFC 8259), with the keys of objects in byte order.
-ghost use Rattle.std.specs.Prelude.{◌≡◌, ◌≤◌, true, IfOk, OnOk, map};
+ghost use Rattle.std.specs.Prelude.{◌≡◌, ◌≤◌, true, IfOk};
 ghost use Rattle.serde_json.specs.Data.{string, depth};
 ghost use Rattle.serde_json.specs.Written.{compact_text};
-ghost use Rattle.serde_json.specs.View.{view, items_view, members_view};
+ghost use Rattle.serde_json.specs.View.{view};
 ghost use Rattle.diff_tree.specs.Frame.{reference_json, one_member, reply, fault_json};
-ghost use Rattle.diff_tree.specs.Spelling.{with_events, members_of, events_json};
-ghost use Rattle.wire_v2.specs.FrameData.{pushed_of, push_data, page_data, event_name, payload_data, frame_data};
+ghost use Rattle.wire_v2.specs.FrameData.{event_name, payload_data, frame_data};
 ghost use Rattle.wire_v2.specs.FrameGrammar.{SpellsFrame};
 ghost use Rattle.wire_v2.specs.FrameLaws.{body_fits};
 
 use crate::frame::{Frame, FrameBody};
-use crate::push::Push;
-use diff_tree::{Diff, diff_value};
+use diff_tree::diff_value;
 use serde_json::{Map, Value, put};
 use std::alloc::Global;
 use text_core::{Bytes, OutOfMemory, Text};
@@ -30,60 +28,6 @@ fn reference_value(alloc: Global, reference: &Option<Text>) -> Result<Value, Out
         Some(text) => text_value(alloc, text.as_str()),
         None => Ok(Value::Null),
     }
-}
-
-fn push_value(alloc: Global, push: &Push) -> Result<Value, OutOfMemory>
-    ensures { IfOk result (λ v. view v ≡ push_data push.now) }
-{
-    let mut items = Vec::new(alloc);
-    items.push(text_value(alloc, push.name.as_str())?)?;
-    items.push(push.payload.clone()?)?;
-    Ok(Value::Array(items))
-}
-
-fn pushes_value(alloc: Global, pushes: &[Push]) -> Result<Vec<Value>, OutOfMemory>
-    ensures { IfOk result (λ vs. items_view vs.items ≡ events_json (map pushed_of pushes.now)) }
-{
-    let mut values = Vec::new(alloc);
-    'pushes: for push in pushes {
-        values.push(push_value(alloc, push)?)?;
-    }
-    Ok(values)
-}
-
-// The members of an object.
-fn members_of(alloc: Global, value: Value) -> Map<String, Value>
-    ensures { members_view result.entries ≡ members_of (view value) }
-{
-    match value {
-        Value::Object(members) => members,
-        _ => Map::new(alloc),
-    }
-}
-
-// Events, where there are any, go under `e`.
-fn add_events(
-    alloc: Global,
-    members: &mut Map<String, Value>,
-    events: &[Push],
-) -> Result<(), OutOfMemory>
-    ensures { OnOk result (members_view members.new.entries ≡ with_events (map pushed_of events.now) (members_view members.old.entries)) }
-{
-    if events.is_empty() {
-        return Ok(());
-    }
-    let values = pushes_value(alloc, events)?;
-    put(members, alloc, "e", Value::Array(values))?;
-    Ok(())
-}
-
-// A tree or a diff, with its events.
-fn page_value(alloc: Global, diff: &Diff, events: &[Push]) -> Result<Value, OutOfMemory>
-    ensures { IfOk result (λ v. view v ≡ page_data diff.now events.now) }
-{
-    let mut members = members_of(alloc, diff_value(alloc, diff)?);
-    add_events(alloc, &mut members, events)?;
-    Ok(Value::Object(members))
 }
 
 // An object of one member.
@@ -126,12 +70,12 @@ fn event_name(body: &FrameBody) -> &'static str
     ensures { result.now ≡ event_name body.now }
 {
     match body {
-        FrameBody::Pushed { .. } => "diff",
+        FrameBody::Pushed(_) => "diff",
         FrameBody::Closed => "phx_close",
         FrameBody::Faulted(_) => "phx_error",
         FrameBody::Empty
-        | FrameBody::Rendered { .. }
-        | FrameBody::Changed { .. }
+        | FrameBody::Rendered(_)
+        | FrameBody::Changed(_)
         | FrameBody::Refusal(_)
         | FrameBody::NoCids => "phx_reply",
     }
@@ -142,20 +86,16 @@ fn payload_value(alloc: Global, body: &FrameBody) -> Result<Value, OutOfMemory>
 {
     match body {
         FrameBody::Empty => reply(alloc, "ok", Value::Object(Map::new(alloc))),
-        FrameBody::Rendered { tree, events } => {
-            let page = page_value(alloc, tree, events.as_slice())?;
-            reply_with(alloc, "ok", "rendered", page)
+        FrameBody::Rendered(tree) => {
+            reply_with(alloc, "ok", "rendered", diff_value(alloc, tree)?)
         }
-        FrameBody::Changed { diff, events } => {
-            let page = page_value(alloc, diff, events.as_slice())?;
-            reply_with(alloc, "ok", "diff", page)
-        }
+        FrameBody::Changed(diff) => reply_with(alloc, "ok", "diff", diff_value(alloc, diff)?),
         FrameBody::Refusal(reason) => {
             let text = text_value(alloc, reason.as_str())?;
             reply_with(alloc, "error", "reason", text)
         }
         FrameBody::NoCids => reply_with(alloc, "ok", "cids", Value::Array(Vec::new(alloc))),
-        FrameBody::Pushed { diff, events } => page_value(alloc, diff, events.as_slice()),
+        FrameBody::Pushed(diff) => diff_value(alloc, diff),
         FrameBody::Closed => Ok(Value::Object(Map::new(alloc))),
         FrameBody::Faulted(reason) => fault_value(alloc, reason),
     }

@@ -5,17 +5,12 @@ mod event;
 mod frame;
 mod frame_laws;
 mod frame_reading;
-#[cfg(test)]
-mod frame_tests;
 mod frame_writing;
 mod head;
 mod message;
-mod numbers;
 mod page_reading;
 mod payload;
 mod push;
-#[cfg(test)]
-mod tests;
 mod wholes;
 
 pub use event::EventValue;
@@ -25,4 +20,4 @@ pub use frame_reading::read_frame;
 pub use frame_writing::write_frame;
 pub use head::MessageHead;
 pub use message::{Message, MessageFault, read_message};
-pub use push::{Push, Pushes};
+pub use push::push_of_value;

@@ -7,8 +7,10 @@ use Rattle.ast_core.proofs.reading.reads.Goals as goal
 
 pub returns-clause-assigns : goal.returns-clause-assigns
 returns-clause-assigns c =
-    ap (λ (w : Walk). w.assigns) (c.in_ok-read_node.ensures ∙ ap (met (node_reads c.args.node.now)) c.new-walk.ensures) ∙ assigns_met (node_reads c.args.node.now)
+    c.ended.ensures.assigns
+    ∙ ap (λ (w : Walk). w.assigns) (c.in_ok-read_node.ensures ∙ ap (met (node_reads c.args.node.now)) c.new-walk.ensures) ∙ assigns_met (node_reads c.args.node.now)
 
 pub returns-clause-variables : goal.returns-clause-variables
 returns-clause-variables c =
-    ap (λ (w : Walk). w.variables) (c.in_ok-read_node.ensures ∙ ap (met (node_reads c.args.node.now)) c.new-walk.ensures) ∙ variables_met (node_reads c.args.node.now)
+    c.ended.ensures.variables
+    ∙ ap (λ (w : Walk). w.variables) (c.in_ok-read_node.ensures ∙ ap (met (node_reads c.args.node.now)) c.new-walk.ensures) ∙ variables_met (node_reads c.args.node.now)

@@ -1,12 +1,12 @@
 use Rattle.std.proofs.Common.{◌≡◌, ◌∙◌, List, get_or, sym, ap, subst, arith, Option, option_map, IfSome}
 use Rattle.std.specs.Vec.Iter.{into_iter_items, into_iter_len}
-use Rattle.diff_tree.specs.Tree.{Tree, node, Trees}
+use Rattle.diff_tree.specs.Tree.{Tree, node, Trees, Change}
 use Rattle.client_merge.specs.Held.{held_tree, held_trees}
 use Rattle.client_merge.specs.Planned.{planned, planned_all, merged, merged_all}
 use Rattle.client_merge.specs.declared.held.HeldNode.{HeldNode}
 use Rattle.client_merge.specs.declared.held.HeldNode.TheViews as nodes
 use Rattle.client_merge.specs.declared.plan.PlaceChange.{PlaceChange}
-use Rattle.client_merge.proofs.Views.{open_held, held-Node, planned-Write, planned-Inner}
+use Rattle.client_merge.proofs.Views.{open_held, held-Node, planned-Write, planned-Inner, planned-Rows}
 use Rattle.client_merge.proofs.Loops.{Applied}
 use Rattle.client_merge.proofs.Applies.{node_merges, node_if, applied_one, applied_there, counted_on, none_left, applied_all}
 use Rattle.client_merge.proofs.merging.+apply.Goals as goal
@@ -24,6 +24,11 @@ apply-returns-in-Node t c =
     ∙ node_merges c.in-Node.statics (held_trees c.in-Node.places) (planned_all c.in-Inner.changes)))
     (subst (λ (u : Tree). IfSome (option_map (node c.in-Node.statics) (merged_all (held_trees c.in-Node.places) (planned_all c.in-Inner.changes))) (λ t. t ≡ u)) (sym (held-Node c.in-Node.statics c.apply_all.result))
     (node_if c.in-Node.statics (merged_all (held_trees c.in-Node.places) (planned_all c.in-Inner.changes)) (held_trees c.apply_all.result) c.apply_all.ensures))
+
+pub apply-returns-in-Rows : goal.apply-returns-in-Rows
+apply-returns-in-Rows t c =
+    subst (λ (o : Option Change). IfSome (merged (held_tree c.args.held) o) (λ t. t ≡ held_tree c.with_rows.result))
+    (sym (ap planned c.in-Rows.is ∙ planned-Rows c.in-Rows.rows)) c.with_rows.ensures
 
 pub apply_all-changes-preserved-then-place-len : goal.apply_all-changes-preserved-then-place-len
 apply_all-changes-preserved-then-place-len t c =
@@ -54,6 +59,32 @@ apply_all-changes-preserved-else-place-len t c =
 
 pub apply_all-changes-preserved-else-place-len-2 : goal.apply_all-changes-preserved-else-place-len-2
 apply_all-changes-preserved-else-place-len-2 t c =
+    let ts = held_trees c.into_vec-places.result.items in
+    let all = planned_all (into_iter_items c.into_iter-place-iterator.result) in
+    let hs = c.changes.places.items in
+    let steps = c.in-Some.ensures.steps in
+    record {
+      kept = λ some.
+          let there = applied_there ts all c.in-Some.field-0 (into_iter_items c.next.new.self) hs (subst (λ (l : List PlaceChange). Applied ts all l (held_trees hs)) steps.0 (c.changes.invariant.kept some)) some in
+          absurd (omega (arith, there, c.len.ensures, c.if-place-len.false));
+      counted = counted_on (into_iter_len c.changes.place-iterator) (into_iter_len c.next.new.self) (into_iter_items c.changes.place-iterator) c.in-Some.field-0 (into_iter_items c.next.new.self) c.changes.invariant.counted steps.0 steps.1;
+    }
+
+pub apply_all-changes-preserved-else-place-len-3 : goal.apply_all-changes-preserved-else-place-len-3
+apply_all-changes-preserved-else-place-len-3 t c =
+    let ts = held_trees c.into_vec-places.result.items in
+    let all = planned_all (into_iter_items c.into_iter-place-iterator.result) in
+    let hs = c.changes.places.items in
+    let steps = c.in-Some.ensures.steps in
+    record {
+      kept = λ some.
+          let there = applied_there ts all c.in-Some.field-0 (into_iter_items c.next.new.self) hs (subst (λ (l : List PlaceChange). Applied ts all l (held_trees hs)) steps.0 (c.changes.invariant.kept some)) some in
+          absurd (omega (arith, there, c.len.ensures, c.if-place-len.false));
+      counted = counted_on (into_iter_len c.changes.place-iterator) (into_iter_len c.next.new.self) (into_iter_items c.changes.place-iterator) c.in-Some.field-0 (into_iter_items c.next.new.self) c.changes.invariant.counted steps.0 steps.1;
+    }
+
+pub apply_all-changes-preserved-else-place-len-4 : goal.apply_all-changes-preserved-else-place-len-4
+apply_all-changes-preserved-else-place-len-4 t c =
     let ts = held_trees c.into_vec-places.result.items in
     let all = planned_all (into_iter_items c.into_iter-place-iterator.result) in
     let hs = c.changes.places.items in

@@ -1,55 +1,79 @@
-use Rattle.std.proofs.Common.{rules, ◌≡◌, ◌<◌, ◌≤◌, ◌^◌, ◌∷◌, [], ◌∙◌, List, get_or, sym, ap, subst, refl, arith, true, Option, Some, None, option_map, is_some}
+use Rattle.std.proofs.Common.{rules, ◌≡◌, ◌<◌, ◌≤◌, ◌^◌, ◌∷◌, [], ◌∙◌, List, get_or, sym, ap, subst, refl, arith, true, Option, Some, None, option_map, is_some, IfOk}
 use Rattle.std.specs.Vec.Iter.{into_iter_items, into_iter_len}
 use Rattle.text_core.specs.declared.by_key.KeyValue.{KeyValue}
 use Rattle.text_core.specs.Keyed.{keys, ascend}
-use Rattle.diff_tree.specs.Tree.{text, node, inner, Changes, no_changes, count, merge_change}
+use Rattle.diff_tree.specs.Tree.{text, node, list, inner, Changes, no_changes, count, merge_change}
 use Rattle.diff_tree.specs.Client.{and_then}
 use Rattle.diff_tree.specs.Grammar.{is_place}
 use Rattle.diff_tree.specs.Parts.{part_data, place_data, node_data}
 use Rattle.diff_tree.specs.declared.part.PlaceValue.{PlaceValue}
 use Rattle.client_merge.specs.Reading.{number_of, change_of, merge_data}
-use Rattle.client_merge.specs.Held.{held_tree, held_trees}
+use Rattle.client_merge.specs.Held.{held_tree, held_trees, held_rows, sent_node}
 use Rattle.client_merge.specs.Planned.{gathered, planned, planned_all, merged, merged_all, placed}
 use Rattle.client_merge.specs.declared.plan.HeldChange.TheViews as change_views
 use Rattle.client_merge.specs.declared.plan.PlaceChange.{PlaceChange}
 use Rattle.client_merge.proofs.Changes.{tree_at}
-use Rattle.client_merge.proofs.Members.{readings, inner_is, inner_only, unwritten_change, part_of}
-use Rattle.client_merge.proofs.Views.{held-Text, held-Node, held_at, count_held, planned-Inner, placed-is}
-use Rattle.client_merge.proofs.Loops.{Planning, planning_first, plan_none, plan_unfit, plan_on, plan_last}
+use Rattle.client_merge.proofs.Members.{readings, inner_is, inner_only, part_of}
+use Rattle.client_merge.proofs.Sent.{unwritten_sent}
+use Rattle.client_merge.proofs.Views.{held-Text, held-Node, held-List, held_at, count_held, planned-Write, planned-Inner, placed-is}
+use Rattle.client_merge.proofs.Loops.{Planning, planning_first, plan_none, plan_unfit, plan_on, plan_last, writes_it}
 use Rattle.client_merge.proofs.Applies.{counted_on, none_left, node_merges, some_node}
 use Rattle.client_merge.proofs.plan.+plan.Goals as goal
 
 pub plan_node-returns-in_err-take_node-in-Some-clause-bad : goal.plan_node-returns-in_err-take_node-in-Some-clause-bad
 plan_node-returns-in_err-take_node-in-Some-clause-bad t c = λ bad.
-    let es = c.into_parts-statics.result.1 in
-    let sent : part_data c.args.part ≡ node_data (Some c.in-Some.statics) es = part_of c.args.part (Some c.in-Some.statics) es (sym c.in-Some.is ∙ c.into_parts-statics.ensures.statics) c.into_parts-statics.ensures.places in
+    let b = c.into_parts-statics.result.1 in
+    let sent : part_data c.args.part ≡ sent_node (Some c.in-Some.statics) b = part_of c.args.part (Some c.in-Some.statics) b (sym c.in-Some.is ∙ c.into_parts-statics.ensures.statics) c.into_parts-statics.ensures.body in
     ap (λ d. merge_data (held_tree c.args.held.now) d) sent
-    ∙ ap (merged (held_tree c.args.held.now)) (unwritten_change c.in-Some.statics es (c.in_err-take_node-in-Some.ensures.bad (search rules)))
+    ∙ ap (merged (held_tree c.args.held.now)) (unwritten_sent c.in-Some.statics b (c.in_err-take_node-in-Some.ensures.bad (search rules)))
 
-pub plan_node-returns-in_err-plan_places-in-Node-clause-bad : goal.plan_node-returns-in_err-plan_places-in-Node-clause-bad
-plan_node-returns-in_err-plan_places-in-Node-clause-bad t c = λ bad.
-    let es = c.into_parts-statics.result.1 in
-    let sent : part_data c.args.part ≡ node_data None es = part_of c.args.part None es (sym c.in-None.is ∙ c.into_parts-statics.ensures.statics) c.into_parts-statics.ensures.places in
+pub plan_node-returns-in_ok-take_node-in-Some-clause-ok : goal.plan_node-returns-in_ok-take_node-in-Some-clause-ok
+plan_node-returns-in_ok-take_node-in-Some-clause-ok t c =
+    let b = c.into_parts-statics.result.1 in
+    let st = c.in-Some.statics in
+    let h = c.in_ok-take_node-in-Some.field-0 in
+    let sent : part_data c.args.part ≡ sent_node (Some st) b = part_of c.args.part (Some st) b (sym c.in-Some.is ∙ c.into_parts-statics.ensures.statics) c.into_parts-statics.ensures.body in
+    (planned-Write h ∙ sym (ap change_of sent ∙ writes_it (change_of (sent_node (Some st) b)) (held_tree h) c.in_ok-take_node-in-Some.ensures.ok), ap (λ o. is_some (merged (held_tree c.args.held.now) o)) (planned-Write h))
+
+pub plan_node-returns-in-None-clause-ok : goal.plan_node-returns-in-None-clause-ok
+plan_node-returns-in-None-clause-ok t c =
+    let b = c.into_parts-statics.result.1 in
+    let sent : part_data c.args.part ≡ sent_node None b = part_of c.args.part None b (sym c.in-None.is ∙ c.into_parts-statics.ensures.statics) c.into_parts-statics.ensures.body in
+    subst (λ d. IfOk c.plan_body.result (λ x. (planned x ≡ change_of d) × (is_some (merged (held_tree c.args.held.now) (planned x)) ≡ true))) (sym sent) c.plan_body.ensures.ok
+
+pub plan_node-returns-in-None-clause-bad : goal.plan_node-returns-in-None-clause-bad
+plan_node-returns-in-None-clause-bad t c = λ bad.
+    let b = c.into_parts-statics.result.1 in
+    let sent : part_data c.args.part ≡ sent_node None b = part_of c.args.part None b (sym c.in-None.is ∙ c.into_parts-statics.ensures.statics) c.into_parts-statics.ensures.body in
+    ap (λ d. merge_data (held_tree c.args.held.now) d) sent ∙ c.plan_body.ensures.bad bad
+
+pub plan_inner-returns-in_err-plan_places-in-Node-clause-bad : goal.plan_inner-returns-in_err-plan_places-in-Node-clause-bad
+plan_inner-returns-in_err-plan_places-in-Node-clause-bad t c = λ bad.
+    let es = c.args.places in
     let tree_is : held_tree c.args.held.now ≡ node c.in-Node.statics (held_trees c.in-Node.held) = ap held_tree c.in-Node.is ∙ held-Node c.in-Node.statics c.in-Node.held in
-    ap (λ d. merge_data (held_tree c.args.held.now) d) sent ∙ ap (λ u. merge_data u (node_data None es)) tree_is
+    ap (λ u. merge_data u (node_data None es)) tree_is
     ∙ c.in_err-plan_places-in-Node.ensures.bad (search rules) c.in-Node.statics
 
-pub plan_node-returns-in-Text-clause-bad : goal.plan_node-returns-in-Text-clause-bad
-plan_node-returns-in-Text-clause-bad t c = λ bad.
-    let es = c.into_parts-statics.result.1 in
-    let sent : part_data c.args.part ≡ node_data None es = part_of c.args.part None es (sym c.in-None.is ∙ c.into_parts-statics.ensures.statics) c.into_parts-statics.ensures.places in
+pub plan_inner-returns-in-Text-clause-bad : goal.plan_inner-returns-in-Text-clause-bad
+plan_inner-returns-in-Text-clause-bad t c = λ bad.
+    let es = c.args.places in
     let tree_is : held_tree c.args.held.now ≡ text c.in-Text.field-0 = ap held_tree c.in-Text.is ∙ held-Text c.in-Text.field-0 in
-    ap (λ d. merge_data (held_tree c.args.held.now) d) sent ∙ ap (λ u. merge_data u (node_data None es)) tree_is
+    ap (λ u. merge_data u (node_data None es)) tree_is
     ∙ inner_only es (merge_change (text c.in-Text.field-0)) (λ cs. refl)
 
-pub plan_node-returns-in_ok-plan_places-in-Node-clause-ok : goal.plan_node-returns-in_ok-plan_places-in-Node-clause-ok
-plan_node-returns-in_ok-plan_places-in-Node-clause-ok t c =
-    let es = c.into_parts-statics.result.1 in
-    let sent : part_data c.args.part ≡ node_data None es = part_of c.args.part None es (sym c.in-None.is ∙ c.into_parts-statics.ensures.statics) c.into_parts-statics.ensures.places in
+pub plan_inner-returns-in-List-clause-bad : goal.plan_inner-returns-in-List-clause-bad
+plan_inner-returns-in-List-clause-bad t c = λ bad.
+    let es = c.args.places in
+    let tree_is : held_tree c.args.held.now ≡ list c.in-List.statics (held_rows c.in-List.rows) = ap held_tree c.in-List.is ∙ held-List c.in-List.statics c.in-List.rows in
+    ap (λ u. merge_data u (node_data None es)) tree_is
+    ∙ inner_only es (merge_change (list c.in-List.statics (held_rows c.in-List.rows))) (λ cs. refl)
+
+pub plan_inner-returns-in_ok-plan_places-in-Node-clause-ok : goal.plan_inner-returns-in_ok-plan_places-in-Node-clause-ok
+plan_inner-returns-in_ok-plan_places-in-Node-clause-ok t c =
     let tree_is : held_tree c.args.held.now ≡ node c.in-Node.statics (held_trees c.in-Node.held) = ap held_tree c.in-Node.is ∙ held-Node c.in-Node.statics c.in-Node.held in
     let ps = c.in_ok-plan_places-in-Node.field-0 in
     let made = c.in_ok-plan_places-in-Node.ensures.ok in (
-      planned-Inner ps ∙ made.0 ∙ sym (ap change_of sent),
+      planned-Inner ps ∙ made.0,
       ap (λ u. is_some (merged u (planned (change_views.Inner ps)))) tree_is
           ∙ ap (λ o. is_some (merged (node c.in-Node.statics (held_trees c.in-Node.held)) o)) (planned-Inner ps)
           ∙ ap is_some (node_merges c.in-Node.statics (held_trees c.in-Node.held) (planned_all ps))

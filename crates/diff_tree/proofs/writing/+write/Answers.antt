@@ -1,17 +1,13 @@
-use Rattle.std.proofs.Common.{◌≡◌, ◌≤◌, ◌++◌, ◌+◌, drop, length, ◌∙◌, sym, ap, arith}
-use Rattle.serde_json.specs.Data.{object, Members, put}
-use Rattle.serde_json.specs.View.{view, members_view}
-use Rattle.serde_json.proofs.Views.{view-Object}
+use Rattle.std.proofs.Common.{◌≡◌, ◌≤◌, ◌++◌, ◌+◌, drop, length, map, ◌∙◌, ap, arith}
+use Rattle.std.proofs.lemmas.List.{take_all}
+use Rattle.serde_json.specs.Data.{Members, put}
+use Rattle.serde_json.specs.View.{view, members_view, items_of}
 use Rattle.text_core.specs.Keyed.{keys, ascend}
-use Rattle.diff_tree.specs.Parts.{with_statics, places_json, seen}
-use Rattle.diff_tree.proofs.Order.{names, join, chain}
-use Rattle.diff_tree.proofs.Written.{puts_on, puts_all, part_data-out}
+use Rattle.diff_tree.specs.Plain.{names}
+use Rattle.diff_tree.specs.Parts.{places_json, seen}
+use Rattle.diff_tree.proofs.Order.{join, chain}
+use Rattle.diff_tree.proofs.Written.{puts_on, puts_all, row_array, rows-map}
 use Rattle.diff_tree.proofs.writing.+write.Goals as goal
-
-pub part_value-returns : goal.part_value-returns
-part_value-returns t c =
-    let part = c.args.part.now in
-    view-Object c.add_statics.new.members ∙ ap object (c.in_ok-add_statics.ensures ∙ ap (with_statics part.statics) c.in_ok-members.ensures) ∙ sym (part_data-out part)
 
 pub places_value-places-preserved : goal.places_value-places-preserved
 places_value-places-preserved t c =
@@ -32,3 +28,8 @@ places_value-returns t c =
     puts_all c.as_slice-entry-items.result.now c.places.entry-index (members_view c.places.members.entries) past
     (ap (λ es. ascend (keys es)) c.as_slice-entry-items.ensures.value ∙ c.as_slice-entry-items.ensures.ascending) c.places.invariant.so_far
     ∙ ap (λ es. places_json (seen es)) c.as_slice-entry-items.ensures.value
+
+pub rows_value-returns : goal.rows_value-returns
+rows_value-returns t c =
+    let past : length c.as_slice-row-items.result.now ≤ c.rows.row-index = omega arith in
+    ap items_of (c.rows.invariant ∙ ap (map row_array) (take_all c.rows.row-index c.as_slice-row-items.result.now past ∙ c.as_slice-row-items.ensures)) ∙ rows-map c.args.rows.now

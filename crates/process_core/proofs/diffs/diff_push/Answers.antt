@@ -1,6 +1,6 @@
 use Rattle.std.proofs.Common.{[], ◌∷◌, map, None, if◌then◌else◌, sym, ◌∙◌, ap, refl}
 use Rattle.diff_tree.specs.Frame as model
-use Rattle.wire_v2.specs.FrameData.{pushed_of}
+use Rattle.diff_tree.specs.Parts.{page_data, pushed_of}
 use Rattle.doc_model.specs.Process.{frame_of}
 use Rattle.doc_model.specs.Journal.{spelled}
 use Rattle.process_core.proofs.Arms.{on_given}
@@ -18,6 +18,6 @@ pub returns : goal.returns
 returns c =
     let page = c.args.page.now in
     on_given c.push.result (λ fs spells d plain is.
-    spells (model.push d (map pushed_of c.args.events)) (d, c.new-diff.ensures.data ∙ is ∙ page_is d plain, refl)
+    spells (model.push d (map pushed_of c.args.events)) (d, map pushed_of c.args.events, c.new-diff.ensures.data ∙ ap (λ cs. page_data c.args.part cs c.args.events) c.new-2.ensures ∙ page_is d c.args.part c.args.events plain is, refl)
     ∙ sym (ap (λ b. spelled (if b then [] else frame_of page.join_ref None page.topic (model.push d (map pushed_of c.args.events)) ∷ []))
     (sym (nothing_is d c.args.part c.args.events plain is) ∙ sym c.is_nothing.ensures ∙ c.if-is_nothing.false))) c.push.ensures

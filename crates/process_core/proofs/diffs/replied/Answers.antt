@@ -1,5 +1,5 @@
 use Rattle.std.proofs.Common.{map, refl}
-use Rattle.wire_v2.specs.FrameData.{pushed_of}
+use Rattle.diff_tree.specs.Parts.{pushed_of}
 use Rattle.doc_model.specs.Process.{diff_body}
 use Rattle.process_core.proofs.diffs.replied.Goals as goal
 

@@ -5,7 +5,8 @@ use Rattle.value_core.specs.declared.value.Value.{Value}
 use Rattle.view_api.specs.View.{effects_view, Means}
 use Rattle.effects_apply.specs.Applied.{rest_view, Becomes, applied_view}
 use Rattle.doc_model.specs.Effects.{apply_effects, empty_stream}
-use Rattle.diff_render.specs.Renders.{Renders, present, whole_json}
+use Rattle.diff_render.specs.Renders.{Renders, whole_json}
+use Rattle.diff_render.specs.Tracked.{present}
 use Rattle.live_page.specs.World.{destination_view}
 use Rattle.live_page.proofs.Joined.{then_asked, joins, mount_fault, params_fault, begun_fault, first_fault}
 use Rattle.live_page.proofs.Turned.{leaves_page}
@@ -97,5 +98,5 @@ returns g c w free =
     let asked_then = sym (ap (λ (l : List (KeyValue Value)). then_asked m app route j t r0 (assigns_view l)) c.assigns.ensures) ∙ c.in_ok-begun.ensures in
     let done_then = c.in_ok-apply_effects-2.ensures.does done.1.0 w done.0 in
     let is = joins m app route j t r0 es fs (assigns_view after) (present c.apply_effects-2.new.assigns) done.1.0 done_then.1.0 r1 (rest_view w c.apply_effects-2.new.rest) asked done.1.1 asked_then done_then.1.1 in
-    let rendered = subst (λ (l : List (KeyValue Value)). Renders app.compiled (assigns_view l) (whole_json app.compiled) (Ok c.in_ok-tree.tree)) c.assigns-2.ensures c.in_ok-tree.ensures in
-    leaves_page m app w _ (whole_json app.compiled) c.args.to.now.view j t c.apply_effects-2.new.assigns c.settle.new.self c.apply_effects-2.new.rest c.in_ok-tree.tree is rendered done_then.0 c.settle.ensures.present c.settle.ensures.settled
+    let rendered = subst (λ (l : List (KeyValue Value)). Renders app.compiled (assigns_view l) (whole_json app.compiled) (Ok (c.in_ok-tree.tree, c.in_ok-tree.prints))) c.assigns-2.ensures c.in_ok-tree.ensures in
+    leaves_page m app w _ (whole_json app.compiled) c.args.to.now.view j t c.apply_effects-2.new.assigns c.settle.new.self c.apply_effects-2.new.rest c.in_ok-tree.tree c.in_ok-tree.prints is rendered done_then.0 c.settle.ensures.present c.settle.ensures.settled
