@@ -1,6 +1,7 @@
 pub mod Syntax
 pub mod Free
 pub mod Places
+pub mod Blank
 pub mod PatternView
 pub mod ExprView
 pub mod NodeView

@@ -30,6 +30,13 @@ attribute_on n (form.Put e) xs = valued n (expr_view e) xs
 attribute_on n (form.Spread e) xs = spread_of (expr_view e) xs
 attribute_on n (form.Module m) xs = module_of m xs
 
+-- a value and its attribute, each before others
+abbrev pub seen_value : AttributeValue → List ℕ → model.Attributes → model.Attributes
+seen_value v n xs = attribute_on n v xs
+
+abbrev pub seen_attribute : Attribute → model.Attributes → model.Attributes
+seen_attribute a xs = attribute_on a.name a.value xs
+
 abbrev pub attributes_view : List Attribute → model.Attributes
 attributes_view [] = no_attributes
 attributes_view (a ∷ as') = attribute_on a.name a.value (attributes_view as')

@@ -1,12 +1,12 @@
 //! What expressions, nodes and places read from outside themselves.
 ghost use Rattle.std.specs.Prelude.{◌≡◌, IfOk};
 ghost use Rattle.ast_core.specs.ExprView.{expr_view};
-ghost use Rattle.ast_core.specs.Free.{free_names, free_node, free_place};
-ghost use Rattle.ast_core.specs.NodeView.{node_view, place_view};
+ghost use Rattle.ast_core.specs.Free.{free_body, free_names, free_node, free_place};
+ghost use Rattle.ast_core.specs.NodeView.{body_view, node_view, place_view};
 ghost use Rattle.ast_core.specs.Reads.{assigns_in, variables_in};
 
 use crate::walk::{Reads, Walk};
-use crate::{Expr, Node, Place};
+use crate::{Expr, Node, Place, SlotBody};
 use std::alloc::Global;
 use text_core::OutOfMemory;
 
@@ -29,6 +29,16 @@ pub fn place_reads(alloc: Global, place: &Place) -> Result<Reads, OutOfMemory>
 {
     let mut walk = Walk::new(alloc);
     walk.read_place(alloc, place)?;
+    Ok(walk.ended())
+}
+
+/// The same of a slot body: the names that its `:let` binds are not free in it.
+pub fn body_reads(alloc: Global, body: &SlotBody) -> Result<Reads, OutOfMemory>
+    ensures assigns { IfOk result (λ r. r.assigns ≡ assigns_in (free_body (body_view body.now))) }
+    ensures variables { IfOk result (λ r. r.variables ≡ variables_in (free_body (body_view body.now))) }
+{
+    let mut walk = Walk::new(alloc);
+    walk.read_body(alloc, body)?;
     Ok(walk.ended())
 }
 

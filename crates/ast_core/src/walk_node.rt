@@ -177,7 +177,7 @@ impl Walk {
     }
 
     #[cycle(node)]
-    fn read_body(&mut self, alloc: Global, body: &SlotBody) -> Result<(), OutOfMemory>
+    pub fn read_body(&mut self, alloc: Global, body: &SlotBody) -> Result<(), OutOfMemory>
         ensures { OnOk result (self.new ≡ met (body_reads body.now) self.old) }
     {
         match &body.pattern {

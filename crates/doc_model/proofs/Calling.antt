@@ -5,7 +5,8 @@ use Rattle.ast_core.specs.Syntax.{Expr, Pattern, Generator, Attributes, no_attri
 use Rattle.ast_core.specs.Free.{bound, without, free_names, free_nodes, free_body, free_test, free_inside, free_attributes, free_entries}
 use Rattle.doc_model.specs.Environment.{Env, bind, binding, bindings, captured_assigns, captured_variables, with_key}
 use Rattle.doc_model.specs.Evaluation.{Res, then_do, both, on_res, eval_expr, is_true, append_values}
-use Rattle.doc_model.specs.Calls.{written_value, spread_entries, add_named, add_spread, eval_attributes, all_passed, slot_value, entry_value, one_entry, tested_entry, items_of, entry_rows, entry_values, add_entries, eval_entries, is_blank, content_entries, callee_assigns, call_assigns, live_passed, live_assigns, without_key}
+use Rattle.ast_core.specs.Blank.{is_blank}
+use Rattle.doc_model.specs.Calls.{written_value, spread_entries, add_named, add_spread, eval_attributes, all_passed, slot_value, entry_value, one_entry, tested_entry, items_of, entry_rows, entry_values, add_entries, eval_entries, content_entries, callee_assigns, call_assigns, live_passed, live_assigns, without_key}
 use Rattle.doc_model.proofs.Names.{Agree, agree_left, agree_right, agree_bound, agree_same, Binds, binds, eval_agrees, captured_assigns_agree, captured_variables_agree}
 
 pub attributes_agree : (xs : Attributes) (a b : Env) → Agree a b (free_attributes xs) → eval_attributes a xs ≡ eval_attributes b xs

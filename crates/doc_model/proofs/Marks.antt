@@ -10,7 +10,7 @@ use Rattle.diff_tree.specs.Mark.{mark_text, begins_lower, ends_name, after_name,
 use Rattle.doc_model.specs.Environment.{Env}
 use Rattle.doc_model.specs.Evaluation.{Res, both, on_res, eval_expr, printed}
 use Rattle.doc_model.specs.Printing.{with_spaces, class_items, equals, print_attribute, is_attribute_name, entry_texts, print_spread}
-use Rattle.doc_model.specs.Calls.{is_space, all_space}
+use Rattle.ast_core.specs.Blank.{is_space, all_space}
 use Rattle.doc_model.specs.Scopes.{Site, Deeper}
 use Rattle.doc_model.specs.FullRendering.{full_render, full_attributes, full_nodes, full_place, element_text}
 use Rattle.doc_model.specs.Mark.{none_ends_name, is_tag_name, IsLiveRoot, marked_root, MarkIsAtRoot}

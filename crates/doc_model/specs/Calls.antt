@@ -1,9 +1,10 @@
 -- What a call passes: attribute values, and slot entries that capture the scope in which they are written.
-use Rattle.std.specs.Prelude.{ℕ, List, [], ◌∷◌, Option, Some, None, Ok, Err, Bool, true, false, ◌&&◌, ◌||◌, ◌==◌, nat_lt, if◌then◌else◌, codes}
+use Rattle.std.specs.Prelude.{ℕ, List, [], ◌∷◌, Option, Some, None, Ok, Err, Bool, true, false, ◌||◌, nat_lt, if◌then◌else◌, codes}
 use Rattle.std.specs.Str.{bytes_eq}
 use Rattle.value_core.specs.Value.{Value, slot, list, tuple, nil, map_of, text, boolean, Values, no_values, value, Assigns, no_assigns, assign}
 use Rattle.value_core.specs.declared.raise.Raise.TheVariants.{BadArgument, Deep}
-use Rattle.ast_core.specs.Syntax.{Expr, Generator, Written, double_quoted, single_quoted, bare, Attributes, no_attributes, written, valued, spread_of, module_of, text_node, Nodes, no_nodes, node, Body, slot_body, Entries, no_entries, entry}
+use Rattle.ast_core.specs.Syntax.{Expr, Generator, Written, double_quoted, single_quoted, bare, Attributes, no_attributes, written, valued, spread_of, module_of, Body, slot_body, Entries, no_entries, entry}
+use Rattle.ast_core.specs.Blank.{is_blank}
 use Rattle.ast_core.specs.Free.{bound, without, free_nodes}
 use Rattle.doc_model.specs.Environment.{Env, lookup, with_key, bind, bindings, captured_assigns, captured_variables}
 use Rattle.value_core.specs.Nesting.{assigns_depth}
@@ -103,22 +104,7 @@ abbrev pub eval_entries : Env → Entries → Res Assigns
 eval_entries env no_entries = Ok no_assigns
 eval_entries env (entry l s xs g t b es) = both (add_entries s) (entry_values env xs g t b) (eval_entries env es)
 
--- content of white space alone is none
-abbrev pub is_space : ℕ → Bool
-is_space c = c == 32 || c == 9 || c == 10 || c == 13
-
--- a text of white space alone
-abbrev pub all_space : List ℕ → Bool
-all_space [] = true
-all_space (c ∷ cs) = is_space c && all_space cs
-
--- nodes of white space alone
-abbrev pub is_blank : Nodes → Bool
-is_blank no_nodes = true
-is_blank (node (text_node t) ns) = all_space t && is_blank ns
-is_blank (node _ ns) = false
-
--- the call's content as the one entry of its inner_block
+-- the call's content as the one entry of its inner_block; white space alone is none
 abbrev pub content_entries : Env → Body → Values
 content_entries env (slot_body n p ns) =
     if is_blank ns then no_values else value (map_of (assign (codes "inner_block") (slot_value env (slot_body n p ns)) no_assigns)) no_values

@@ -5,7 +5,7 @@ use Rattle.ast_core.specs.Syntax.{double_quoted, written, Node, text_node, eleme
 use Rattle.diff_tree.specs.Mark.{begins_lower, ends_name, with_mark}
 use Rattle.doc_model.specs.Environment.{Env}
 use Rattle.doc_model.specs.Evaluation.{on_res}
-use Rattle.doc_model.specs.Calls.{all_space, is_blank}
+use Rattle.ast_core.specs.Blank.{all_space, is_blank}
 use Rattle.doc_model.specs.Scopes.{Site}
 use Rattle.doc_model.specs.FullRendering.{full_render}
 

@@ -8,11 +8,12 @@ ghost use Rattle.slot_compile.specs.Numbering.{all_bodies, bodies_at, bodies_in,
 ghost use Rattle.slot_compile.specs.Stretches.{clauses_at, else_at, numbered_at, of_bodies, of_node, of_nodes};
 ghost use Rattle.slot_compile.specs.Template.{all_plain, clauses_plain, is_plain, node_plain};
 
-use crate::copying::copy_pattern;
 use crate::flattening::{CompileFault, Flattening, Table};
 use crate::walk::formula_of;
 use crate::{Branch, Dynamic};
-use ast_core::{Clause, Clauses, Expr, Node, Nodes, Pattern, Place, Reads, place_reads};
+use ast_core::{
+    Clause, Clauses, Expr, Node, Nodes, Pattern, Place, Reads, copy_pattern, place_reads,
+};
 use std::alloc::Global;
 use text_core::{OutOfMemory, Seq};
 

@@ -3,7 +3,6 @@
 
 mod bodies;
 mod compiled;
-mod copying;
 mod flattening;
 mod formula;
 mod walk;

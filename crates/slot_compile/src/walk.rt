@@ -6,10 +6,9 @@ ghost use Rattle.ast_core.specs.Syntax.{attribute as attribute_place, spread};
 ghost use Rattle.slot_compile.specs.Gathering.{alone, gathered, hole, text, then_on};
 ghost use Rattle.slot_compile.specs.Stretches.{of_attribute, of_attributes};
 
-use crate::copying::copy_expr;
 use crate::flattening::Flattening;
 use crate::{Dynamic, Formula};
-use ast_core::{Attribute, AttributeValue, Attributes, Expr};
+use ast_core::{Attribute, AttributeValue, Attributes, Expr, copy_expr};
 use heex_token::is_void;
 use std::alloc::Global;
 use text_core::{OutOfMemory, Text};

@@ -4,16 +4,16 @@ ghost use Rattle.ast_core.specs.ExprView.{expr_view};
 ghost use Rattle.ast_core.specs.PatternView.{pattern_view};
 ghost use Rattle.ast_core.specs.NamesIn.{part_view, pair_view, step_view, operand_view, call_view, pattern_pair_view};
 
-use ast_core::{
+use crate::{
     Expr, Exprs, Operand, Pair, Pairs, Parts, PathStep, Pattern, PatternPair, PatternPairs,
     Patterns, PipeCall, TextPart,
 };
 use std::alloc::Global;
 use text_core::{OutOfMemory, Seq};
 
-/// An expression that means the same.
+/// A copy of an expression, which means the same.
 #[cycle(expr)]
-pub(crate) fn copy_expr(alloc: Global, expr: &Expr) -> Result<Expr, OutOfMemory>
+pub fn copy_expr(alloc: Global, expr: &Expr) -> Result<Expr, OutOfMemory>
     ensures { IfOk result (λ e. expr_view e ≡ expr_view expr.now) }
 {
     match expr {
@@ -168,9 +168,9 @@ fn copy_calls(alloc: Global, calls: &Seq<PipeCall>) -> Result<Seq<PipeCall>, Out
     Ok(copies)
 }
 
-/// A pattern that means the same.
+/// A copy of a pattern, which means the same.
 #[cycle(pattern)]
-pub(crate) fn copy_pattern(alloc: Global, pattern: &Pattern) -> Result<Pattern, OutOfMemory>
+pub fn copy_pattern(alloc: Global, pattern: &Pattern) -> Result<Pattern, OutOfMemory>
     ensures { IfOk result (λ p. pattern_view p ≡ pattern_view pattern.now) }
 {
     match pattern {

@@ -1,7 +1,7 @@
 use Rattle.std.proofs.Common.{◌≡◌, map, take}
 use Rattle.ast_core.specs.ExprView.{expr_view}
 use Rattle.ast_core.specs.NamesIn.{part_view, pair_view, step_view, operand_view, call_view}
-use Rattle.slot_compile.proofs.copying.+expr.Given as goal
+use Rattle.ast_core.proofs.copying.+expr.Given as goal
 
 abbrev pub invariant-copy_calls-calls : goal.invariant-copy_calls-calls
 invariant-copy_calls-calls l = map call_view l.copies ≡ map call_view (take l.call-index l.call-items)

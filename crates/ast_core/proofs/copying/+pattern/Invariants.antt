@@ -1,7 +1,7 @@
 use Rattle.std.proofs.Common.{◌≡◌, map, take}
 use Rattle.ast_core.specs.PatternView.{pattern_view}
 use Rattle.ast_core.specs.NamesIn.{pattern_pair_view}
-use Rattle.slot_compile.proofs.copying.+pattern.Given as goal
+use Rattle.ast_core.proofs.copying.+pattern.Given as goal
 
 abbrev pub invariant-copy_keys-pairs : goal.invariant-copy_keys-pairs
 invariant-copy_keys-pairs l = map pattern_pair_view l.copies ≡ map pattern_pair_view (take l.pair-index l.pair-items)
