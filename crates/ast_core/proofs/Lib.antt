@@ -4,4 +4,5 @@ pub mod Members
 pub mod NodeReads
 pub mod Ordered
 pub mod PatternReads
+pub mod SeenAttributes
 pub mod Walks
