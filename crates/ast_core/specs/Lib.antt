@@ -5,6 +5,7 @@ pub mod Blank
 pub mod PatternView
 pub mod ExprView
 pub mod NodeView
+pub mod LinkedView
 pub mod Reads
 pub mod Walk
 pub mod NamesIn
