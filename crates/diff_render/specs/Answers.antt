@@ -1,5 +1,5 @@
 -- What a call of the renderer answers.
-use Rattle.std.specs.Prelude.{◌≡◌, ℕ, List, Result, Ok, Err}
+use Rattle.std.specs.Prelude.{◌≡◌, Result, Ok, Err}
 use Rattle.value_core.specs.declared.raise.Raise.{Raise}
 use Rattle.doc_model.specs.Evaluation.{Res}
 use Rattle.diff_render.specs.declared.fault.RenderFault.{RenderFault}
@@ -12,7 +12,7 @@ Answers P (Err fault.Raised) r = (e : Raise) × (r ≡ Err e)
 Answers P (Err fault.OutOfMemory) r = Unit {0}
 
 -- an answer that is the result
-abbrev pub Shows : Result (List ℕ) RenderFault → Res (List ℕ) → Type 0
+abbrev pub Shows : {A : Type 0} → Result A RenderFault → Res A → Type 0
 Shows (Ok t) r = r ≡ Ok t
 Shows (Err fault.Raised) r = (e : Raise) × (r ≡ Err e)
 Shows (Err fault.OutOfMemory) r = Unit {0}

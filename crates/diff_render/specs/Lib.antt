@@ -1,10 +1,10 @@
 pub mod Again
 pub mod Answers
-pub mod Plain
 pub mod Prints
 pub mod Renders
 pub mod Scope
 pub mod Shown
 pub mod Taken
+pub mod Texts
 pub mod Tracked
 pub mod Values

@@ -1,10 +1,11 @@
 -- The values of places, as they are sent.
-use Rattle.std.specs.Prelude.{ℕ, suc, List, [], ◌∷◌, map, Option, Some, None, option_map}
+use Rattle.std.specs.Prelude.{ℕ, zero, suc, List, [], ◌∷◌, map, Option, Some, None, option_map}
 use Rattle.serde_json.specs.Data.{Data, Items, Members, no_members, put}
 use Rattle.std.specs.Fmt.{decimal}
 use Rattle.diff_tree.specs.Tree.{Tree, Trees, no_trees, tree, Rows, no_rows, row, Change, Changes, no_changes, skip, change}
 use Rattle.diff_tree.specs.Spelling.{tree_json, change_json, row_json}
-use Rattle.diff_tree.specs.Parts.{place_data, row_data}
+use Rattle.diff_tree.specs.Parts.{part_data, place_data, row_data}
+use Rattle.diff_tree.specs.declared.part.Part.{Part}
 use Rattle.diff_tree.specs.declared.part.PlaceValue.{PlaceValue}
 use Rattle.diff_tree.specs.declared.part.Row.{Row}
 
@@ -48,3 +49,12 @@ rows_in (row ts rs) = row_json ts ∷ rows_in rs
 
 abbrev pub rows_seen : List Row → List Items
 rows_seen rs = map row_data rs
+
+-- the values of nodes
+abbrev pub parts_seen : List Part → List Data
+parts_seen ps = map part_data ps
+
+-- empty constant texts, one more than there are entries
+abbrev pub empty_statics : ℕ → List (List ℕ)
+empty_statics zero = [] ∷ []
+empty_statics (suc n) = [] ∷ empty_statics n

@@ -1,8 +1,9 @@
 //! Which branch a place takes.
 ghost use Rattle.std.specs.Prelude.{if◌then◌else◌, Some};
 ghost use Rattle.value_core.specs.View.{view};
-ghost use Rattle.ast_core.specs.Syntax.{Nodes};
-ghost use Rattle.slot_compile.specs.Numbering.{ElseStands, ReadsRight, clauses_in, else_in, node_at, place_in};
+ghost use Rattle.ast_core.specs.Syntax.{Nodes, Place};
+ghost use Rattle.slot_compile.specs.Numbering.{clauses_in, else_in, node_at};
+ghost use Rattle.slot_compile.specs.Places.{ElseStands, IsPlace};
 ghost use Rattle.doc_model.specs.Scopes.{chosen};
 ghost use Rattle.diff_render.specs.Answers.{Answers};
 ghost use Rattle.diff_render.specs.Scope.{scope_in};
@@ -32,7 +33,7 @@ pub(crate) fn choose(
     variables: &Variables,
     dynamic: &Dynamic,
 ) -> Result<Option<Choice>, RenderFault>
-    ensures { (template : Nodes) → ReadsRight template dynamic.now → Answers (IsTaken template) result (taken (scope_in assigns.now variables.now) (place_in template dynamic.now)) }
+    ensures { (template : Nodes) (p : Place) → IsPlace template dynamic.now p → Answers (IsTaken template) result (taken (scope_in assigns.now variables.now) p) }
 {
     match dynamic {
         Dynamic::If { test, yes, no } => {
@@ -51,6 +52,11 @@ pub(crate) fn choose(
             pattern: _,
             reads: _,
             body: _,
+        }
+        | Dynamic::Call { form: _, reads: _ }
+        | Dynamic::RenderSlot {
+            slot: _,
+            argument: _,
         } => Ok(None),
     }
 }
