@@ -5,9 +5,10 @@ use Rattle.value_core.specs.Value.{Value, Assigns}
 use Rattle.value_core.specs.declared.raise.Raise.TheVariants.{NoClause}
 use Rattle.ast_core.specs.ExprView.{expr_view}
 use Rattle.ast_core.specs.PatternView.{pattern_view}
-use Rattle.ast_core.specs.Syntax.{Nodes}
+use Rattle.ast_core.specs.Syntax.{Nodes, Place}
 use Rattle.ast_core.specs.declared.expr.Expr.{Expr}
-use Rattle.slot_compile.specs.Numbering.{ElseStands, ReadsRight, clauses_in, else_in, node_at, place_in}
+use Rattle.slot_compile.specs.Numbering.{node_at}
+use Rattle.slot_compile.specs.Places.{ElseStands, IsPlace, clauses_in, else_in}
 use Rattle.slot_compile.specs.declared.compiled.Branch.{Branch}
 use Rattle.slot_compile.specs.declared.compiled.Dynamic.{Dynamic}
 use Rattle.slot_compile.specs.declared.compiled.Dynamic.TheVariants.{If, Case}
@@ -17,6 +18,7 @@ use Rattle.doc_model.specs.Evaluation.{Res, then_do, on_res, eval_expr, is_true}
 use Rattle.doc_model.specs.Scopes.{Chosen, chosen, later}
 use Rattle.diff_render.specs.Taken.{IsChoice, IsTaken, NoneMatches, branch, or_else, taken}
 use Rattle.diff_render.specs.declared.choice.Choice.{Choice}
+use Rattle.diff_render.proofs.Dynamics.{case_is, if_is}
 
 unbound : {X : Type 0} (o : Option X) → is_some o ≡ false → o ≡ None
 unbound None h = refl
@@ -70,19 +72,19 @@ chosen_none t v (b ∷ bs) h = by (chosen_none t v bs h.1) (binding (pattern_vie
     by rest (Some as') e = cc
 
 -- the branch of an `if`
-pub taken_if : (t : Nodes) (d : Dynamic) (f : Expr) (m : ℕ) (n : Option ℕ) (env : Env) (v : Value) (b : Bool) (o : Option Choice) → d ≡ If f m n → ReadsRight t d → eval_expr env (expr_view f) ≡ Ok v → b ≡ is_true v
-    → ((s : Nodes) → ElseStands s n → IsTaken s o (if b then Some (branch 0 (node_at s m)) else or_else (else_in s n))) → (x : Option Chosen) × (taken env (place_in t d) ≡ Ok x) × IsTaken t o x
-taken_if t d f m n env v b o is reads value truth given = (
+pub taken_if : (t : Nodes) (d : Dynamic) (p : Place) (f : Expr) (m : ℕ) (n : Option ℕ) (env : Env) (v : Value) (b : Bool) (o : Option Choice) → IsPlace t d p → d ≡ If f m n → eval_expr env (expr_view f) ≡ Ok v → b ≡ is_true v
+    → ((s : Nodes) → ElseStands s n → IsTaken s o (if b then Some (branch 0 (node_at s m)) else or_else (else_in s n))) → (x : Option Chosen) × (taken env p ≡ Ok x) × IsTaken t o x
+taken_if t d p f m n env v b o place is value truth given = (
   if is_true v then Some (branch 0 (node_at t m)) else or_else (else_in t n),
-  ap (λ e. taken env (place_in t e)) is ∙ ap (on_res (λ w. if is_true w then Some (branch 0 (node_at t m)) else or_else (else_in t n))) value,
-  subst (λ c. IsTaken t o (if c then Some (branch 0 (node_at t m)) else or_else (else_in t n))) truth (given t (subst (ReadsRight t) is reads)),
+  ap (taken env) (if_is t d p place f m n is).0 ∙ ap (on_res (λ w. if is_true w then Some (branch 0 (node_at t m)) else or_else (else_in t n))) value,
+  subst (λ c. IsTaken t o (if c then Some (branch 0 (node_at t m)) else or_else (else_in t n))) truth (given t (if_is t d p place f m n is).1),
 )
 
 -- the clause of a `case`
-pub taken_case : (t : Nodes) (d : Dynamic) (f : Expr) (bs : List Branch) (env : Env) (v : Value) (c : Choice) → d ≡ Case f bs → eval_expr env (expr_view f) ≡ Ok v
-    → ((x : Chosen) × (chosen v (clauses_in t bs) ≡ Ok x) × IsChoice t c x) → (x : Option Chosen) × (taken env (place_in t d) ≡ Ok x) × IsTaken t (Some c) x
-taken_case t d f bs env v c is value given = (
+pub taken_case : (t : Nodes) (d : Dynamic) (p : Place) (f : Expr) (bs : List Branch) (env : Env) (v : Value) (c : Choice) → IsPlace t d p → d ≡ Case f bs → eval_expr env (expr_view f) ≡ Ok v
+    → ((x : Chosen) × (chosen v (clauses_in t bs) ≡ Ok x) × IsChoice t c x) → (x : Option Chosen) × (taken env p ≡ Ok x) × IsTaken t (Some c) x
+taken_case t d p f bs env v c place is value given = (
   Some given.0,
-  ap (λ e. taken env (place_in t e)) is ∙ ap (λ r. on_res (λ x. Some x) (then_do r (λ w. chosen w (clauses_in t bs)))) value ∙ ap (on_res (λ x. Some x)) given.1,
+  ap (taken env) (case_is t d p place f bs is) ∙ ap (λ r. on_res (λ x. Some x) (then_do r (λ w. chosen w (clauses_in t bs)))) value ∙ ap (on_res (λ x. Some x)) given.1,
   given.2,
 )

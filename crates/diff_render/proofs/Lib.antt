@@ -1,8 +1,11 @@
 pub mod Anew
 pub mod Before
 pub mod Branches
+pub mod Calls
+pub mod CallsAgain
 pub mod Changed
 pub mod Deciding
+pub mod Dynamics
 pub mod Empty
 pub mod Entering
 pub mod Firsts
@@ -15,9 +18,11 @@ pub mod Places
 pub mod Plains
 pub mod Progress
 pub mod Puts
+pub mod Readings
 pub mod Recalls
 pub mod Same
 pub mod Sent
+pub mod Slots
+pub mod SlotsAgain
 pub mod Takes
-pub mod Texts
 pub mod Wholes

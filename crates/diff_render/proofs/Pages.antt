@@ -25,7 +25,7 @@ use Rattle.diff_render.specs.Again.{GivesChanges}
 use Rattle.diff_render.specs.Answers.{Answers}
 use Rattle.diff_render.specs.Prints.{RemembersAll, prints_view}
 use Rattle.diff_render.specs.Renders.{AreLean, FirstIsWhole, GivesNode, IsWholeNode, Meets, Recalls, Renders, lean_json}
-use Rattle.diff_render.specs.Scope.{alone, scope_in, scope_of}
+use Rattle.diff_render.specs.Scope.{scope_in, scope_of}
 use Rattle.diff_render.specs.Tracked.{HasSettled, IsNoted, present, scope_now, scope_then, scopes_before}
 use Rattle.diff_render.specs.Values.{numbered_changes, options_seen}
 use Rattle.diff_render.specs.declared.fault.RenderFault.{RenderFault}
@@ -36,27 +36,27 @@ use Rattle.diff_render.proofs.Plains.{plain_trace}
 use Rattle.diff_render.proofs.Sent.{numbered_changed}
 
 -- what a template meets by itself it meets anywhere
-meets_alone : (c : Source) (as' : Assigns) (r : Res Items) → IsPlain c → trace alone levels (scope_of as' no_assigns) (syntax_of c) ≡ r → Meets c as' r
+meets_alone : (c : Source) (as' : Assigns) (r : Res Items) → IsPlain c → trace site levels (scope_of as' no_assigns) (syntax_of c) ≡ r → Meets c as' r
 meets_alone c as' r plain h = record {
   plain = plain;
   is = λ site env is none.
       plain_trace site levels env (syntax_of c) plain
-      ∙ ap (λ bs. trace alone levels (scope_of bs env.variables) (syntax_of c)) is
-      ∙ ap (λ vs. trace alone levels (scope_of as' vs) (syntax_of c)) none
+      ∙ ap (λ bs. trace site levels (scope_of bs env.variables) (syntax_of c)) is
+      ∙ ap (λ vs. trace site levels (scope_of as' vs) (syntax_of c)) none
       ∙ h;
 }
 
 no_variables : (as' : List (KeyValue Value)) (vs : Variables) → vs.scopes ≡ [] → scope_in as' vs ≡ scope_of (assigns_view as') no_assigns
 no_variables as' vs h = ap (λ ss. scope_of (assigns_view as') (variables_view ss)) h
 
-pub first_given : (c : Source) (as' : List (KeyValue Value)) (vs : Variables) (r : Result (Part × List Print) RenderFault) → vs.scopes ≡ [] → IsPlain c → GivesNode c as' vs 0 levels r → FirstIsWhole c (assigns_view as') r
+pub first_given : (c : Source) (as' : List (KeyValue Value)) (vs : Variables) (r : Result (Part × List Print) RenderFault) → vs.scopes ≡ [] → IsPlain c → GivesNode site c as' vs 0 levels r → FirstIsWhole c (assigns_view as') r
 first_given c as' vs r none plain h =
-    by r (subst (λ env. Answers (IsWholeNode (syntax_of c) env (syntax_of c)) r (trace alone levels env (syntax_of c))) (no_variables as' vs none) h)
+    by r (subst (λ env. Answers (IsWholeNode site (syntax_of c) env (syntax_of c)) r (trace site levels env (syntax_of c))) (no_variables as' vs none) h)
   where
     env : Env
     env = scope_of (assigns_view as') no_assigns
 
-    by : (s : Result (Part × List Print) RenderFault) → Answers (IsWholeNode (syntax_of c) env (syntax_of c)) s (trace alone levels env (syntax_of c)) → FirstIsWhole c (assigns_view as') s
+    by : (s : Result (Part × List Print) RenderFault) → Answers (IsWholeNode site (syntax_of c) env (syntax_of c)) s (trace site levels env (syntax_of c)) → FirstIsWhole c (assigns_view as') s
     by (Ok p) g = record { items = g.0; met = meets_alone c (assigns_view as') (Ok g.0) plain g.1; sent = g.2.json; remembered = g.2.remembered }
     by (Err fault.Raised) g = (g.0, meets_alone c (assigns_view as') (Err g.0) plain g.1)
     by (Err fault.OutOfMemory) g = tt
@@ -72,21 +72,21 @@ module _ (c : Source) (t : Tracked) (tr : Tracking) (prints : List Print) (befor
   noted : IsNoted tr
   noted = ap length notes ∙ sym (ap length scopes)
 
-  given : (r : Result (List (Option PlaceValue) × List Print) RenderFault) → GivesChanges c t tr 0 prints levels r
-      → Answers (AreLean (syntax_of c) (scope_of (present t) no_assigns) (places_in (syntax_of c)) old) r (trace alone levels (scope_of (present t) no_assigns) (syntax_of c))
+  given : (r : Result (List (Option PlaceValue) × List Print) RenderFault) → GivesChanges site c t tr 0 prints levels r
+      → Answers (AreLean site (syntax_of c) (scope_of (present t) no_assigns) (places_in (syntax_of c)) old) r (trace site levels (scope_of (present t) no_assigns) (syntax_of c))
   given r h =
-      subst (λ env. Answers (AreLean (syntax_of c) env (places_in (syntax_of c)) old) r (trace alone levels env (syntax_of c))) now_is
-      (h before old settled noted (ap (λ env. trace alone levels env (syntax_of c)) then_is ∙ meets.is alone (scope_of before no_assigns) refl refl)
-      (subst (λ env. RemembersAll (syntax_of c) env (prints_view prints) (places_in (syntax_of c))) (sym then_is) recalls))
+      subst (λ env. Answers (AreLean site (syntax_of c) env (places_in (syntax_of c)) old) r (trace site levels env (syntax_of c))) now_is
+      (h before old settled noted (ap (λ env. trace site levels env (syntax_of c)) then_is ∙ meets.is site (scope_of before no_assigns) refl refl)
+      (subst (λ env. RemembersAll site (syntax_of c) env (prints_view prints) (places_in (syntax_of c))) (sym then_is) recalls))
 
-  pub next_fault : (f : RenderFault) → GivesChanges c t tr 0 prints levels (Err f) → Renders c (present t) (lean_json old) (Err f)
+  pub next_fault : (f : RenderFault) → GivesChanges site c t tr 0 prints levels (Err f) → Renders c (present t) (lean_json old) (Err f)
   next_fault f h = by f (given (Err f) h)
     where
-      by : (g : RenderFault) → Answers (AreLean (syntax_of c) (scope_of (present t) no_assigns) (places_in (syntax_of c)) old) (Err g) (trace alone levels (scope_of (present t) no_assigns) (syntax_of c)) → Renders c (present t) (lean_json old) (Err g)
+      by : (g : RenderFault) → Answers (AreLean site (syntax_of c) (scope_of (present t) no_assigns) (places_in (syntax_of c)) old) (Err g) (trace site levels (scope_of (present t) no_assigns) (syntax_of c)) → Renders c (present t) (lean_json old) (Err g)
       by fault.Raised k = (k.0, meets_alone c (present t) (Err k.0) plain k.1)
       by fault.OutOfMemory k = tt
 
-  pub next_told : (changes : List (Option PlaceValue)) (after : List Print) (es : List (KeyValue PlaceValue)) (part : Part) → GivesChanges c t tr 0 prints levels (Ok (changes, after))
+  pub next_told : (changes : List (Option PlaceValue)) (after : List Print) (es : List (KeyValue PlaceValue)) (part : Part) → GivesChanges site c t tr 0 prints levels (Ok (changes, after))
       → places_json (seen es) ≡ numbered_changes 0 (options_seen changes) → part_data part ≡ node_data None es → Renders c (present t) (lean_json old) (Ok (part, after))
   next_told changes after es part h members made =
       let g = given (Ok (changes, after)) h in

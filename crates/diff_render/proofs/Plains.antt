@@ -1,28 +1,34 @@
--- A plain template meets the same wherever it stands, and a pass over one leaves the process as it is.
-use Rattle.std.proofs.Common.{◌≡◌, ℕ, zero, suc, List, [], ◌∷◌, ◌++◌, map, Ok, Err, Option, Some, None, Bool, true, false, if◌then◌else◌, refl, sym, ap, ◌∙◌, true≢false}
+-- Plain nodes meet the same whatever streams and components stand in scope, and a pass over them leaves the process as it is.
+use Rattle.std.proofs.Common.{◌≡◌, ℕ, zero, suc, List, [], ◌∷◌, ◌++◌, ◌==◌, map, Ok, Err, Option, Some, None, Bool, true, false, if◌then◌else◌, refl, sym, ap, ◌∙◌, true≢false}
 use Rattle.std.specs.List.{list_all}
 use Rattle.text_core.specs.Escape.{escape_text}
+use Rattle.std.proofs.lemmas.Bool.Decides.{Decides-eqb}
 use Rattle.value_core.specs.Value.{Value, Assigns}
-use Rattle.ast_core.specs.Syntax.{Name, Expr, any, Attributes, no_attributes, written, valued, spread_of, module_of, Node, text_node, element, at_place, Place, put, attribute, spread, if_place, case_place, for_place, Nodes, no_nodes, node, Clauses, no_clauses, clause}
+use Rattle.value_core.specs.declared.raise.Raise.TheVariants.{NoClause}
+use Rattle.ast_core.specs.Syntax.{Name, Expr, Node, text_node, element, at_place, Place, put, attribute, spread, if_place, case_place, for_place, call, render_slot, Nodes, no_nodes, node, Clauses, no_clauses, clause}
 use Rattle.ast_core.specs.Free.{free_names, free_place}
-use Rattle.ast_core.specs.Places.{cut, places_in, written_text, streams_in, streams_of, streams_at, streams_in_clauses}
+use Rattle.ast_core.specs.Places.{cut, places_in, streams_in, streams_of, streams_at, streams_in_clauses}
 use Rattle.slot_compile.specs.Template.{is_plain, all_plain, node_plain, clauses_plain}
 use Rattle.slot_compile.proofs.Plains.{plain_places}
-use Rattle.diff_tree.specs.Tree.{flat}
+use Rattle.diff_tree.specs.Tree.{Change, Changes, inner, node as tree_node, text, write}
 use Rattle.doc_model.specs.Environment.{Env, binding, bindings, bind, inside, reading}
 use Rattle.doc_model.specs.Evaluation.{Res, then_do, both, on_res, eval_expr, printed, is_true}
 use Rattle.doc_model.specs.Printing.{print_attribute, print_spread}
-use Rattle.doc_model.specs.Calls.{items_of}
-use Rattle.doc_model.specs.Scopes.{Site, Deeper, Chosen, chosen, later, row_scopes}
-use Rattle.doc_model.specs.Trace.{Items, item, Item, met_text, met_branch, met_rows, item_row}
-use Rattle.doc_model.specs.Tracing.{trace, trace_rows, trace_else, trace_place, trace_places}
-use Rattle.doc_model.specs.FullRendering.{full_rows, full_else, full_place, full_attributes, element_text, full_node, full_nodes, full_render}
-use Rattle.doc_model.specs.Walk.{Views, Walk, Step, plainly, and_so, giving, in_turn, Onward, pass_rows, pass_else, pass_place, pass_places, pass}
-use Rattle.diff_render.specs.Scope.{alone, scope_of}
-use Rattle.doc_model.proofs.Results.{On, on_made, on_bind, on_all}
+use Rattle.doc_model.specs.Calls.{items_of, call_assigns}
+use Rattle.doc_model.specs.Scopes.{Captured, Site, Deeper, Chosen, callee, chosen, later, row_scopes, slot_scope, slots_of}
+use Rattle.doc_model.specs.Trace.{Items, item, Item, Slots, met_call, met_slots, met_text, met_branch, met_rows, item_row, slot_of}
+use Rattle.doc_model.specs.Whole.{slots_tree, whole_places, whole_rows, whole_slots}
+use Rattle.doc_model.specs.Lean.{is_empty, lean_place, lean_places, lean_slots, option_change, rows_change, slot_count, unless_empty}
+use Rattle.doc_model.specs.Tracing.{trace, trace_rows, trace_else, trace_place, trace_places, trace_slot, trace_slots}
+use Rattle.doc_model.specs.Walk.{Views, Walk, Step, plainly, and_so, giving, in_turn, Onward, pass_rows, pass_else, pass_place, pass_places, pass_slot, pass_slots, pass}
+use Rattle.bundle_compile.specs.Site.{IsPlainSite}
+use Rattle.diff_render.specs.Scope.{scope_of}
+use Rattle.doc_model.proofs.Results.{On, on_made, on_bind, on_all, on_both, on_then, on_weaker}
 use Rattle.doc_model.proofs.Sames.{both_true}
+use Rattle.doc_model.proofs.Calling.{call_same}
 use Rattle.doc_model.proofs.Names.{agree_same, agree_reading, eval_agrees}
 use Rattle.doc_model.proofs.Passes.{then_assoc}
+use Rattle.diff_render.proofs.Readings.{reading_refl}
 
 -- what a scope has without its streams and components
 abbrev lone : Env → Env
@@ -70,7 +76,7 @@ abbrev Alike : {A : Type 0} → Deeper A → Deeper A → Type 0
 Alike go to = (env : Env) (ns : Nodes) → all_plain ns ≡ true → go env ns ≡ to (lone env) ns
 
 -- what is met
-module _ (site : Site) (go to : Deeper Items) (h : Alike go to) where
+module _ (site : Site) (plain_site : IsPlainSite site) (go to : Deeper Items) (h : Alike go to) where
   branch_same : (i : ℕ) (env : Env) (ns : Nodes) → all_plain ns ≡ true → on_res (met_branch i (cut ns)) (go env ns) ≡ on_res (met_branch i (cut ns)) (to (lone env) ns)
   branch_same i env ns plain = ap (on_res (met_branch i (cut ns))) (h env ns plain)
 
@@ -87,7 +93,21 @@ module _ (site : Site) (go to : Deeper Items) (h : Alike go to) where
       ap (λ r. both item_row r (trace_rows go body (map (λ as'. inside as' env) bs))) (h (inside b env) body plain)
       ∙ ap (both item_row (to (inside b (lone env)) body)) (rows_same env body bs plain)
 
-  place_same : (env : Env) (p : Place) → is_plain p ≡ true → trace_place site go env p ≡ trace_place alone to (lone env) p
+  slot_same : (env : Env) (v : Value) (c : Captured) → trace_slot site go env v c ≡ trace_slot site to (lone env) v c
+  slot_same env v c = by (binding (site.body c.number).pattern v)
+    where
+      by : (o : Option Assigns) → ◌≡◌ {A = Res Items} (elim o [ None ↦ Err NoClause | Some as' ↦ go (slot_scope env c as') (site.body c.number).nodes ])
+          (elim o [ None ↦ Err NoClause | Some as' ↦ to (slot_scope (lone env) c as') (site.body c.number).nodes ])
+      by None = refl
+      by (Some as') = h (slot_scope env c as') (site.body c.number).nodes (plain_site.bodies c.number)
+
+  slots_same : (env : Env) (v : Value) (cs : List Captured) → trace_slots site go env v cs ≡ trace_slots site to (lone env) v cs
+  slots_same env v [] = refl
+  slots_same env v (c ∷ cs) =
+      ap (λ (r : Res Items). both (slot_of c.number (cut (site.body c.number).nodes)) r (trace_slots site go env v cs)) (slot_same env v c)
+      ∙ ap (both (slot_of c.number (cut (site.body c.number).nodes)) (trace_slot site to (lone env) v c)) (slots_same env v cs)
+
+  place_same : (env : Env) (p : Place) → is_plain p ≡ true → trace_place site go env p ≡ trace_place site to (lone env) p
   place_same env (put e) plain =
       ap (λ vs. on_res (λ t. met_text vs (escape_text t)) (then_do (eval_expr env e) printed)) (same_reads env (free_names e))
       ∙ ap (λ r. on_res (λ t. met_text (reading (lone env) (free_names e)) (escape_text t)) (then_do r printed)) (same_value env e)
@@ -119,96 +139,130 @@ module _ (site : Site) (go to : Deeper Items) (h : Alike go to) where
       (then_same Anything (then_do (eval_expr env e) items_of) (then_do (eval_expr (lone env) e) items_of)
       (λ vs. trace_rows go body (row_scopes env p vs)) (λ vs. trace_rows to body (row_scopes (lone env) p vs))
       (ap (λ r. then_do r items_of) (same_value env e)) (on_any (then_do (eval_expr (lone env) e) items_of)) (λ vs u. rows_same env body (bindings p vs) plain))
+  place_same env (call t xs content es) plain =
+      ap (on_res (met_call (cut (site.template t))))
+      (then_same Anything (call_assigns env xs content es) (call_assigns (lone env) xs content es) (λ as'. go (callee env as') (site.template t)) (λ as'. to (callee (lone env) as') (site.template t))
+      (call_same xs content es env (lone env) refl refl) (on_any (call_assigns (lone env) xs content es)) (λ as' u. h (callee env as') (site.template t) (plain_site.templates t)))
+  place_same env (render_slot e a) plain =
+      ap (on_res met_slots)
+      (then_same Anything (then_do (eval_expr env e) (slots_of site)) (then_do (eval_expr (lone env) e) (slots_of site))
+      (λ cs. then_do (eval_expr env a) (λ v. trace_slots site go env v cs)) (λ cs. then_do (eval_expr (lone env) a) (λ v. trace_slots site to (lone env) v cs))
+      (ap (λ (r : Res Value). then_do r (slots_of site)) (same_value env e)) (on_any (then_do (eval_expr (lone env) e) (slots_of site)))
+      (λ cs u. then_same Anything (eval_expr env a) (eval_expr (lone env) a) (λ v. trace_slots site go env v cs) (λ v. trace_slots site to (lone env) v cs)
+      (same_value env a) (on_any (eval_expr (lone env) a)) (λ v w. slots_same env v cs)))
   place_same env _ plain = absurd (true≢false (sym plain))
 
-  places_same : (env : Env) (ps : List Place) → list_all is_plain ps ≡ true → trace_places site go env ps ≡ trace_places alone to (lone env) ps
+  places_same : (env : Env) (ps : List Place) → list_all is_plain ps ≡ true → trace_places site go env ps ≡ trace_places site to (lone env) ps
   places_same env [] plain = refl
   places_same env (p ∷ ps) plain =
       let q = both_true (is_plain p) (list_all is_plain ps) plain in
       ap (λ r. both item r (trace_places site go env ps)) (place_same env p q.0)
-      ∙ ap (both item (trace_place alone to (lone env) p)) (places_same env ps q.1)
+      ∙ ap (both item (trace_place site to (lone env) p)) (places_same env ps q.1)
 
--- a plain template meets the same wherever it stands
-pub plain_trace : (site : Site) (k : ℕ) (env : Env) (ns : Nodes) → all_plain ns ≡ true → trace site k env ns ≡ trace alone k (scope_of env.assigns env.variables) ns
-plain_trace site zero env ns plain = refl
-plain_trace site (suc k) env ns plain = places_same site (trace site k) (trace alone k) (plain_trace site k) env (places_in ns) (sym (plain_places ns) ∙ plain)
+-- plain nodes meet the same whatever streams and components stand in scope
+pub plain_trace : (site : Site) → IsPlainSite site → (k : ℕ) (env : Env) (ns : Nodes) → all_plain ns ≡ true → trace site k env ns ≡ trace site k (scope_of env.assigns env.variables) ns
+plain_trace site plain_site zero env ns plain = refl
+plain_trace site plain_site (suc k) env ns plain =
+    places_same site plain_site (trace site k) (trace site k) (plain_trace site plain_site k) env (places_in ns) (sym (plain_places ns) ∙ plain)
 
-pub plain_trace_place : (site : Site) (k : ℕ) (env : Env) (p : Place) → is_plain p ≡ true
-    → trace_place site (trace site k) env p ≡ trace_place alone (trace alone k) (scope_of env.assigns env.variables) p
-plain_trace_place site k env p plain = place_same site (trace site k) (trace alone k) (plain_trace site k) env p plain
+-- what was met of plain nodes differs in nothing from itself
+abbrev StillPlaces : Items → Type 0
+StillPlaces is = is_empty (lean_places is is) ≡ true
 
-pub plain_trace_places : (site : Site) (k : ℕ) (env : Env) (ps : List Place) → list_all is_plain ps ≡ true
-    → trace_places site (trace site k) env ps ≡ trace_places alone (trace alone k) (scope_of env.assigns env.variables) ps
-plain_trace_places site k env ps plain = places_same site (trace site k) (trace alone k) (plain_trace site k) env ps plain
+abbrev StillPlace : Item → Type 0
+StillPlace i = lean_place i i ≡ None
 
--- what is shown
-module _ (site : Site) (go to : Deeper (List ℕ)) (h : Alike go to) where
-  full_choice_same : (c : Bool) (env : Env) (a b : Nodes) → all_plain a ≡ true → all_plain b ≡ true
-      → (if c then go env a else full_else go env b) ≡ (if c then to (lone env) a else full_else to (lone env) b)
-  full_choice_same true env a b left right = h env a left
-  full_choice_same false env a no_nodes left right = refl
-  full_choice_same false env a (node n ns) left right = h env (node n ns) right
+abbrev StillSlots : Slots → Type 0
+StillSlots ss = is_empty (lean_slots ss ss) ≡ true
 
-  full_rows_same : (env : Env) (body : Nodes) (bs : List Assigns) → all_plain body ≡ true
-      → full_rows go body (map (λ as'. inside as' env) bs) ≡ full_rows to body (map (λ as'. inside as' (lone env)) bs)
-  full_rows_same env body [] plain = refl
-  full_rows_same env body (b ∷ bs) plain =
-      ap (λ r. both (λ t ts. t ∷ ts) r (full_rows go body (map (λ as'. inside as' env) bs))) (h (inside b env) body plain)
-      ∙ ap (both (λ t ts. t ∷ ts) (to (inside b (lone env)) body)) (full_rows_same env body bs plain)
+one_number : (n : ℕ) → (n == n) ≡ true
+one_number n = (Decides-eqb n n).1 refl
 
-  full_place_same : (env : Env) (p : Place) → is_plain p ≡ true → full_place site go env p ≡ full_place alone to (lone env) p
-  full_place_same env (put e) plain = ap (λ r. on_res escape_text (then_do r printed)) (same_value env e)
-  full_place_same env (attribute n e) plain = ap (λ r. then_do r (print_attribute n)) (same_value env e)
-  full_place_same env (spread e) plain = ap (λ r. then_do r print_spread) (same_value env e)
-  full_place_same env (if_place t a b) plain =
+none_inside : (cs : Changes) → is_empty cs ≡ true → unless_empty cs ≡ None
+none_inside cs h = ap (λ (b : Bool). if b then None else Some (inner cs)) h
+
+none_before : (o : Option Change) (cs : Changes) → o ≡ None → is_empty cs ≡ true → is_empty (option_change o cs) ≡ true
+none_before o cs h k = ap (λ (x : Option Change). is_empty (option_change x cs)) h ∙ k
+
+still_text : (vs : List (Option Value)) (t : List ℕ) → StillPlace (met_text vs t)
+still_text vs t = ap (λ (b : Bool). if b then None else Some (write (text t))) (reading_refl vs)
+
+still_branch : (i : ℕ) (st : List (List ℕ)) (is : Items) → StillPlaces is → StillPlace (met_branch i st is)
+still_branch i st is h =
+    ap (λ (b : Bool). if b then unless_empty (lean_places is is) else Some (write (tree_node st (whole_places is)))) (one_number i) ∙ none_inside (lean_places is is) h
+
+still_slot : (n : ℕ) (st : List (List ℕ)) (is : Items) (ss : Slots) → StillPlaces is → StillSlots ss → StillSlots (slot_of n st is ss)
+still_slot n st is ss h k =
+    none_before (if n == n then unless_empty (lean_places is is) else Some (write (tree_node st (whole_places is)))) (lean_slots ss ss)
+    (ap (λ (b : Bool). if b then unless_empty (lean_places is is) else Some (write (tree_node st (whole_places is)))) (one_number n) ∙ none_inside (lean_places is is) h) k
+
+still_slots : (ss : Slots) → StillSlots ss → StillPlace (met_slots ss)
+still_slots ss h =
+    ap (λ (b : Bool). if b then unless_empty (lean_slots ss ss) else Some (write (slots_tree (whole_slots ss)))) (one_number (slot_count ss)) ∙ none_inside (lean_slots ss ss) h
+
+module _ (site : Site) (plain_site : IsPlainSite site) (go : Deeper Items) (h : (env : Env) (ns : Nodes) → all_plain ns ≡ true → On StillPlaces (go env ns)) where
+  branch_still : (i : ℕ) (env : Env) (ns : Nodes) → all_plain ns ≡ true → On StillPlace (on_res (met_branch i (cut ns)) (go env ns))
+  branch_still i env ns plain = on_made StillPlace (met_branch i (cut ns)) (go env ns) (on_weaker StillPlaces (λ is. StillPlace (met_branch i (cut ns) is)) (go env ns) (still_branch i (cut ns)) (h env ns plain))
+
+  choice_still : (c : Bool) (env : Env) (a b : Nodes) → all_plain a ≡ true → all_plain b ≡ true → On StillPlace (if c then on_res (met_branch 0 (cut a)) (go env a) else trace_else go env b)
+  choice_still true env a b left right = branch_still 0 env a left
+  choice_still false env a no_nodes left right = refl
+  choice_still false env a (node n ns) left right = branch_still 1 env (node n ns) right
+
+  slot_still : (env : Env) (v : Value) (c : Captured) → On StillPlaces (trace_slot site go env v c)
+  slot_still env v c = by (binding (site.body c.number).pattern v)
+    where
+      by : (o : Option Assigns) → On StillPlaces (elim o [ None ↦ Err NoClause | Some as' ↦ go (slot_scope env c as') (site.body c.number).nodes ])
+      by None = tt
+      by (Some as') = h (slot_scope env c as') (site.body c.number).nodes (plain_site.bodies c.number)
+
+  slots_still : (env : Env) (v : Value) (cs : List Captured) → On StillSlots (trace_slots site go env v cs)
+  slots_still env v [] = refl
+  slots_still env v (c ∷ cs) =
+      on_both StillPlaces StillSlots StillSlots (slot_of c.number (cut (site.body c.number).nodes)) (trace_slot site go env v c) (trace_slots site go env v cs)
+      (λ is ss. still_slot c.number (cut (site.body c.number).nodes) is ss) (slot_still env v c) (slots_still env v cs)
+
+  place_still : (env : Env) (p : Place) → is_plain p ≡ true → On StillPlace (trace_place site go env p)
+  place_still env (put e) plain =
+      on_made StillPlace (λ t. met_text (reading env (free_names e)) (escape_text t)) (then_do (eval_expr env e) printed) (on_all _ (then_do (eval_expr env e) printed) (λ t. still_text (reading env (free_names e)) (escape_text t)))
+  place_still env (attribute n e) plain =
+      on_made StillPlace (met_text (reading env (free_names e))) (then_do (eval_expr env e) (print_attribute n)) (on_all _ (then_do (eval_expr env e) (print_attribute n)) (still_text (reading env (free_names e))))
+  place_still env (spread e) plain =
+      on_made StillPlace (met_text (reading env (free_names e))) (then_do (eval_expr env e) print_spread) (on_all _ (then_do (eval_expr env e) print_spread) (still_text (reading env (free_names e))))
+  place_still env (if_place t a b) plain =
       let q = both_true (all_plain a) (all_plain b) plain in
-      then_same Anything (eval_expr env t) (eval_expr (lone env) t)
-      (λ v. if is_true v then go env a else full_else go env b) (λ v. if is_true v then to (lone env) a else full_else to (lone env) b)
-      (same_value env t) (on_any (eval_expr (lone env) t)) (λ v u. full_choice_same (is_true v) env a b q.0 q.1)
-  full_place_same env (case_place e cs) plain =
-      then_same Anything (eval_expr env e) (eval_expr (lone env) e)
-      (λ v. then_do (chosen v cs) (λ c. go (bind c.variables env) c.nodes)) (λ v. then_do (chosen v cs) (λ c. to (bind c.variables (lone env)) c.nodes))
-      (same_value env e) (on_any (eval_expr (lone env) e))
-      (λ v u. then_same PlainClause (chosen v cs) (chosen v cs)
-      (λ c. go (bind c.variables env) c.nodes) (λ c. to (bind c.variables (lone env)) c.nodes)
-      refl (chosen_plain v cs plain) (λ c p. h (bind c.variables env) c.nodes p))
-  full_place_same env (for_place p e body) plain =
-      ap (on_res flat)
-      (then_same Anything (then_do (eval_expr env e) items_of) (then_do (eval_expr (lone env) e) items_of)
-      (λ vs. full_rows go body (row_scopes env p vs)) (λ vs. full_rows to body (row_scopes (lone env) p vs))
-      (ap (λ r. then_do r items_of) (same_value env e)) (on_any (then_do (eval_expr (lone env) e) items_of)) (λ vs u. full_rows_same env body (bindings p vs) plain))
-  full_place_same env _ plain = absurd (true≢false (sym plain))
+      on_bind StillPlace (eval_expr env t) (λ v. if is_true v then on_res (met_branch 0 (cut a)) (go env a) else trace_else go env b) (λ v. choice_still (is_true v) env a b q.0 q.1)
+  place_still env (case_place e cs) plain =
+      on_bind StillPlace (eval_expr env e) (λ v. then_do (chosen v cs) (λ c. on_res (met_branch c.index (cut c.nodes)) (go (bind c.variables env) c.nodes)))
+      (λ v. on_then PlainClause StillPlace (chosen v cs) (λ c. on_res (met_branch c.index (cut c.nodes)) (go (bind c.variables env) c.nodes)) (chosen_plain v cs plain) (λ c p. branch_still c.index (bind c.variables env) c.nodes p))
+  place_still env (for_place p e body) plain =
+      on_made StillPlace (met_rows (reading env (free_place (for_place p e body))) (cut body)) (then_do (then_do (eval_expr env e) items_of) (λ vs. trace_rows go body (row_scopes env p vs)))
+      (on_all _ (then_do (then_do (eval_expr env e) items_of) (λ vs. trace_rows go body (row_scopes env p vs)))
+      (λ rs. ap (λ (b : Bool). if b then None else rows_change (cut body) (whole_rows rs) (whole_rows rs)) (reading_refl (reading env (free_place (for_place p e body))))))
+  place_still env (call t xs content es) plain =
+      let entered : Res Items = then_do (call_assigns env xs content es) (λ as'. go (callee env as') (site.template t)) in
+      on_made StillPlace (met_call (cut (site.template t))) entered
+      (on_weaker StillPlaces (λ is. StillPlace (met_call (cut (site.template t)) is)) entered (λ is k. none_inside (lean_places is is) k)
+      (on_bind StillPlaces (call_assigns env xs content es) (λ as'. go (callee env as') (site.template t)) (λ as'. h (callee env as') (site.template t) (plain_site.templates t))))
+  place_still env (render_slot e a) plain =
+      let entered : Res Slots = then_do (then_do (eval_expr env e) (slots_of site)) (λ cs. then_do (eval_expr env a) (λ v. trace_slots site go env v cs)) in
+      on_made StillPlace met_slots entered
+      (on_weaker StillSlots (λ ss. StillPlace (met_slots ss)) entered still_slots
+      (on_bind StillSlots (then_do (eval_expr env e) (slots_of site)) (λ cs. then_do (eval_expr env a) (λ v. trace_slots site go env v cs))
+      (λ cs. on_bind StillSlots (eval_expr env a) (λ v. trace_slots site go env v cs) (λ v. slots_still env v cs))))
+  place_still env _ plain = absurd (true≢false (sym plain))
 
-  attributes_same : (env : Env) (xs : Attributes) → full_attributes site go env xs ≡ full_attributes alone to (lone env) xs
-  attributes_same env no_attributes = refl
-  attributes_same env (written n w xs) = ap (on_res (λ u. written_text n w ++ u)) (attributes_same env xs)
-  attributes_same env (valued n e xs) =
-      ap (λ r. both (λ a b. a ++ b) r (full_attributes site go env xs)) (full_place_same env (attribute n e) refl)
-      ∙ ap (both (λ a b. a ++ b) (full_place alone to (lone env) (attribute n e))) (attributes_same env xs)
-  attributes_same env (spread_of e xs) =
-      ap (λ r. both (λ a b. a ++ b) r (full_attributes site go env xs)) (full_place_same env (spread e) refl)
-      ∙ ap (both (λ a b. a ++ b) (full_place alone to (lone env) (spread e))) (attributes_same env xs)
-  attributes_same env (module_of m xs) = attributes_same env xs
+  places_still : (env : Env) (ps : List Place) → list_all is_plain ps ≡ true → On StillPlaces (trace_places site go env ps)
+  places_still env [] plain = refl
+  places_still env (p ∷ ps) plain =
+      let q = both_true (is_plain p) (list_all is_plain ps) plain in
+      on_both StillPlace StillPlaces StillPlaces item (trace_place site go env p) (trace_places site go env ps)
+      (λ i is k rest. none_before (lean_place i i) (lean_places is is) k rest) (place_still env p q.0) (places_still env ps q.1)
 
-  mutual
-    full_node_same : (env : Env) (n : Node) → node_plain n ≡ true → full_node site go env n ≡ full_node alone to (lone env) n
-    full_node_same env (text_node t) plain = refl
-    full_node_same env (element l t xs ns) plain =
-        ap (λ r. both (element_text t) r (full_nodes site go env ns)) (attributes_same env xs)
-        ∙ ap (both (element_text t) (full_attributes alone to (lone env) xs)) (full_nodes_same env ns plain)
-    full_node_same env (at_place l p) plain = full_place_same env p plain
-
-    full_nodes_same : (env : Env) (ns : Nodes) → all_plain ns ≡ true → full_nodes site go env ns ≡ full_nodes alone to (lone env) ns
-    full_nodes_same env no_nodes plain = refl
-    full_nodes_same env (node n ns) plain =
-        let q = both_true (node_plain n) (all_plain ns) plain in
-        ap (λ r. both (λ a b. a ++ b) r (full_nodes site go env ns)) (full_node_same env n q.0)
-        ∙ ap (both (λ a b. a ++ b) (full_node alone to (lone env) n)) (full_nodes_same env ns q.1)
-
--- a plain template shows the same wherever it stands
-pub plain_full : (site : Site) (k : ℕ) (env : Env) (ns : Nodes) → all_plain ns ≡ true → full_render site k env ns ≡ full_render alone k (scope_of env.assigns env.variables) ns
-plain_full site zero env ns plain = refl
-plain_full site (suc k) env ns plain = full_nodes_same site (full_render site k) (full_render alone k) (plain_full site k) env ns plain
+-- a plain rendering differs in nothing from itself
+pub plain_still : (site : Site) → IsPlainSite site → (k : ℕ) (env : Env) (ns : Nodes) → all_plain ns ≡ true → On StillPlaces (trace site k env ns)
+plain_still site plain_site zero env ns plain = tt
+plain_still site plain_site (suc k) env ns plain = places_still site plain_site (trace site k) (plain_still site plain_site k) env (places_in ns) (sym (plain_places ns) ∙ plain)
 
 -- steps that leave the process as it is
 module _ {X : Type 0} where
@@ -233,7 +287,7 @@ module _ {X : Type 0} where
       by_results (Ok a) (Err x) e = ap (on_res {A = B × Walk X} {B = C × Walk X} (λ y. (f a y.0, y.1))) e
       by_results (Err x) q e = refl
 
-module _ {X : Type 0} (views : Views X) (site : Site) (k : ℕ) where
+module _ {X : Type 0} (views : Views X) (site : Site) (plain_site : IsPlainSite site) (k : ℕ) where
   abbrev PassesPlainly : Type 0
   PassesPlainly = (env : Env) (ns : Nodes) (s : Walk X) → all_plain ns ≡ true → pass views site k env ns s ≡ plainly (trace site k env ns) s
 
@@ -258,6 +312,20 @@ module _ {X : Type 0} (views : Views X) (site : Site) (k : ℕ) where
     rows_pass body (env ∷ envs) s plain =
         in_turn_plainly item_row (onward env body) (pass_rows views onward body envs) (traced env body) (trace_rows traced body envs) s (h env body s plain) (rows_pass body envs s plain)
 
+    slot_passes : (env : Env) (v : Value) (c : Captured) (s : Walk X) → pass_slot views site onward env v c s ≡ plainly (trace_slot site traced env v c) s
+    slot_passes env v c s = by (binding (site.body c.number).pattern v)
+      where
+        by : (o : Option Assigns) → (elim o [ None ↦ plainly (Err NoClause) | Some as' ↦ onward (slot_scope env c as') (site.body c.number).nodes ]) s
+            ≡ plainly (elim o [ None ↦ Err NoClause | Some as' ↦ traced (slot_scope env c as') (site.body c.number).nodes ]) s
+        by None = refl
+        by (Some as') = h (slot_scope env c as') (site.body c.number).nodes s (plain_site.bodies c.number)
+
+    slots_pass : (env : Env) (v : Value) (cs : List Captured) (s : Walk X) → pass_slots views site onward env v cs s ≡ plainly (trace_slots site traced env v cs) s
+    slots_pass env v [] s = refl
+    slots_pass env v (c ∷ cs) s =
+        in_turn_plainly (slot_of c.number (cut (site.body c.number).nodes)) (pass_slot views site onward env v c) (pass_slots views site onward env v cs) (trace_slot site traced env v c) (trace_slots site traced env v cs) s
+        (slot_passes env v c s) (slots_pass env v cs s)
+
     place_passes : (env : Env) (p : Place) (s : Walk X) → is_plain p ≡ true → pass_place views site k onward env p s ≡ plainly (trace_place site traced env p) s
     place_passes env (put e) s plain = refl
     place_passes env (attribute n e) s plain = refl
@@ -278,6 +346,17 @@ module _ {X : Type 0} (views : Views X) (site : Site) (k : ℕ) where
         (then_do items (λ vs. trace_rows traced body (row_scopes env p vs))) s
         (and_so_plainly Anything (plainly items) (λ vs. pass_rows views onward body (row_scopes env p vs)) items (λ vs. trace_rows traced body (row_scopes env p vs)) s refl (on_any items)
         (λ vs u. rows_pass body (row_scopes env p vs) s plain))
+    place_passes env (call t xs content es) s plain =
+        let passed = call_assigns env xs content es in
+        giving_plainly (met_call (cut (site.template t))) (and_so (plainly passed) (λ as'. onward (callee env as') (site.template t))) (then_do passed (λ as'. traced (callee env as') (site.template t))) s
+        (and_so_plainly Anything (plainly passed) (λ as'. onward (callee env as') (site.template t)) passed (λ as'. traced (callee env as') (site.template t)) s refl (on_any passed)
+        (λ as' u. h (callee env as') (site.template t) s (plain_site.templates t)))
+    place_passes env (render_slot e a) s plain =
+        let entries = then_do (eval_expr env e) (slots_of site) in
+        giving_plainly met_slots (and_so (plainly entries) (λ cs. and_so (plainly (eval_expr env a)) (λ v. pass_slots views site onward env v cs)))
+        (then_do entries (λ cs. then_do (eval_expr env a) (λ v. trace_slots site traced env v cs))) s
+        (and_so_plainly Anything (plainly entries) (λ cs. and_so (plainly (eval_expr env a)) (λ v. pass_slots views site onward env v cs)) entries (λ cs. then_do (eval_expr env a) (λ v. trace_slots site traced env v cs)) s refl (on_any entries)
+        (λ cs u. and_so_plainly Anything (plainly (eval_expr env a)) (λ v. pass_slots views site onward env v cs) (eval_expr env a) (λ v. trace_slots site traced env v cs) s refl (on_any (eval_expr env a)) (λ v w. slots_pass env v cs s)))
     place_passes env _ s plain = absurd (true≢false (sym plain))
 
     places_pass : (env : Env) (ps : List Place) (s : Walk X) → list_all is_plain ps ≡ true → pass_places views site k onward env ps s ≡ plainly (trace_places site traced env ps) s
@@ -288,9 +367,10 @@ module _ {X : Type 0} (views : Views X) (site : Site) (k : ℕ) where
         (place_passes env p s q.0) (places_pass env ps s q.1)
 
 -- a pass over a plain template is its trace, and leaves the walk as it is
-pub plain_pass : {X : Type 0} (views : Views X) (site : Site) (k : ℕ) (env : Env) (ns : Nodes) (s : Walk X) → all_plain ns ≡ true → pass views site k env ns s ≡ plainly (trace site k env ns) s
-plain_pass views site zero env ns s plain = refl
-plain_pass views site (suc k) env ns s plain = places_pass views site k (plain_pass views site k) env (places_in ns) s (sym (plain_places ns) ∙ plain)
+pub plain_pass : {X : Type 0} (views : Views X) (site : Site) → IsPlainSite site → (k : ℕ) (env : Env) (ns : Nodes) (s : Walk X) → all_plain ns ≡ true → pass views site k env ns s ≡ plainly (trace site k env ns) s
+plain_pass views site plain_site zero env ns s plain = refl
+plain_pass views site plain_site (suc k) env ns s plain =
+    places_pass views site plain_site k (plain_pass views site plain_site k) env (places_in ns) s (sym (plain_places ns) ∙ plain)
 
 -- a plain template has no stream
 no_names : (xs ys : List (List ℕ)) → xs ≡ [] → ys ≡ [] → xs ++ ys ≡ []
@@ -317,6 +397,8 @@ mutual
       no_names (streams_in a) (streams_in b) (plain_no_streams a q.0) (plain_no_streams b q.1)
   none_at (case_place e cs) plain = none_in_clauses cs plain
   none_at (for_place p e ns) plain = refl
+  none_at (call t xs b es) plain = refl
+  none_at (render_slot e a) plain = refl
   none_at _ plain = absurd (true≢false (sym plain))
 
   none_in_clauses : (cs : Clauses) → clauses_plain cs ≡ true → streams_in_clauses cs ≡ []

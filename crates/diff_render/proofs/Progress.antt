@@ -5,11 +5,10 @@ use Rattle.ast_core.specs.Syntax.{Place, Nodes}
 use Rattle.ast_core.specs.Places.{places_in}
 use Rattle.doc_model.specs.Environment.{Env}
 use Rattle.doc_model.specs.Evaluation.{Res, both}
-use Rattle.doc_model.specs.Scopes.{Deeper}
+use Rattle.doc_model.specs.Scopes.{Deeper, Site}
 use Rattle.doc_model.specs.Trace.{Item, Items, no_items, item, ItemRows, no_item_rows, item_row}
 use Rattle.doc_model.specs.Tracing.{trace_place, trace_places, trace_rows}
 use Rattle.diff_render.specs.Prints.{Print, Prints, no_prints, print, RowPrints, no_row_prints, row_prints, Remembers, RemembersAll, RemembersRows}
-use Rattle.diff_render.specs.Scope.{alone}
 
 -- prints, one after the other
 abbrev pub join : Prints → Prints → Prints
@@ -41,72 +40,72 @@ pub one_after : {A : Type 0} (xs : List A) (y : A) (zs : List A) → xs ++ y ∷
 one_after xs y zs = sym (append_assoc xs (y ∷ []) zs)
 
 -- what the places of a node met, with what is sent of it, and what is remembered
-pub record Whole {X : Type 0} (t : Nodes) (go : Deeper Items) (env : Env) (ps : List Place) (seen : Items → List X) (sent : List X) (qs : Prints) : Type 0 where
+pub record Whole {X : Type 0} (site : Site) (t : Nodes) (go : Deeper Items) (env : Env) (ps : List Place) (seen : Items → List X) (sent : List X) (qs : Prints) : Type 0 where
   pub items : Items
-  pub met : trace_places alone go env ps ≡ Ok items
+  pub met : trace_places site go env ps ≡ Ok items
   pub sent_is : seen items ≡ sent
-  pub remembered : RemembersAll t env qs ps
+  pub remembered : RemembersAll site t env qs ps
 
 -- what the places that are left meet decides what all meet
-pub record Progress {X : Type 0} (t : Nodes) (go : Deeper Items) (env : Env) (all left : List Place) (seen seen_left : Items → List X) (sent : List X) (qs : Prints) : Type 0 where
-  pub raises : (e : Raise) → trace_places alone go env left ≡ Err e → trace_places alone go env all ≡ Err e
-  pub goes : (is : Items) (rs : Prints) → trace_places alone go env left ≡ Ok is → RemembersAll t env rs left → Whole t go env all seen (sent ++ seen_left is) (join qs rs)
+pub record Progress {X : Type 0} (site : Site) (t : Nodes) (go : Deeper Items) (env : Env) (all left : List Place) (seen seen_left : Items → List X) (sent : List X) (qs : Prints) : Type 0 where
+  pub raises : (e : Raise) → trace_places site go env left ≡ Err e → trace_places site go env all ≡ Err e
+  pub goes : (is : Items) (rs : Prints) → trace_places site go env left ≡ Ok is → RemembersAll site t env rs left → Whole site t go env all seen (sent ++ seen_left is) (join qs rs)
 
 -- nothing is done yet
-pub begun : {X : Type 0} (t : Nodes) (go : Deeper Items) (env : Env) (ps : List Place) (seen : Items → List X) → Progress t go env ps ps seen seen [] no_prints
-begun t go env ps seen = record { raises = λ e h. h; goes = λ is rs h k. record { items = is; met = h; sent_is = refl; remembered = k } }
+pub begun : {X : Type 0} (site : Site) (t : Nodes) (go : Deeper Items) (env : Env) (ps : List Place) (seen : Items → List X) → Progress site t go env ps ps seen seen [] no_prints
+begun site t go env ps seen = record { raises = λ e h. h; goes = λ is rs h k. record { items = is; met = h; sent_is = refl; remembered = k } }
 
 -- one place more
-pub further : {X : Type 0} (t : Nodes) (go : Deeper Items) (env : Env) (all : List Place) (p : Place) (left : List Place) (seen seen_before seen_left : Items → List X) (sent : List X) (qs : Prints) (i : Item) (x : X) (q : Print)
-    → Progress t go env all (p ∷ left) seen seen_before sent qs → trace_place alone go env p ≡ Ok i → Remembers t env q p → ((is : Items) → seen_before (item i is) ≡ x ∷ seen_left is)
-    → Progress t go env all left seen seen_left (sent ++ x ∷ []) (join qs (print q no_prints))
-further t go env all p left seen seen_before seen_left sent qs i x q h met kept one = record {
-  raises = λ e r. h.raises e (ap (λ s. both item s (trace_places alone go env left)) met ∙ ap (both item (Ok i)) r);
+pub further : {X : Type 0} (site : Site) (t : Nodes) (go : Deeper Items) (env : Env) (all : List Place) (p : Place) (left : List Place) (seen seen_before seen_left : Items → List X) (sent : List X) (qs : Prints) (i : Item) (x : X) (q : Print)
+    → Progress site t go env all (p ∷ left) seen seen_before sent qs → trace_place site go env p ≡ Ok i → Remembers site t env q p → ((is : Items) → seen_before (item i is) ≡ x ∷ seen_left is)
+    → Progress site t go env all left seen seen_left (sent ++ x ∷ []) (join qs (print q no_prints))
+further site t go env all p left seen seen_before seen_left sent qs i x q h met kept one = record {
+  raises = λ e r. h.raises e (ap (λ s. both item s (trace_places site go env left)) met ∙ ap (both item (Ok i)) r);
   goes = λ is rs r k.
-      let w = h.goes (item i is) (print q rs) (ap (λ s. both item s (trace_places alone go env left)) met ∙ ap (both item (Ok i)) r) (kept, k) in
+      let w = h.goes (item i is) (print q rs) (ap (λ s. both item s (trace_places site go env left)) met ∙ ap (both item (Ok i)) r) (kept, k) in
       record {
         items = w.items;
         met = w.met;
         sent_is = w.sent_is ∙ ap (λ l. sent ++ l) (one is) ∙ one_after sent x (seen_left is);
-        remembered = subst (λ z. RemembersAll t env z all) (sym (join_assoc qs (print q no_prints) rs)) w.remembered;
+        remembered = subst (λ z. RemembersAll site t env z all) (sym (join_assoc qs (print q no_prints) rs)) w.remembered;
       };
 }
 
 -- a place that raises
-pub raised : {X : Type 0} (t : Nodes) (go : Deeper Items) (env : Env) (all : List Place) (p : Place) (left : List Place) (seen seen_left : Items → List X) (sent : List X) (qs : Prints) (e : Raise)
-    → Progress t go env all (p ∷ left) seen seen_left sent qs → trace_place alone go env p ≡ Err e → trace_places alone go env all ≡ Err e
-raised t go env all p left seen seen_left sent qs e h met = h.raises e (ap (λ s. both item s (trace_places alone go env left)) met)
+pub raised : {X : Type 0} (site : Site) (t : Nodes) (go : Deeper Items) (env : Env) (all : List Place) (p : Place) (left : List Place) (seen seen_left : Items → List X) (sent : List X) (qs : Prints) (e : Raise)
+    → Progress site t go env all (p ∷ left) seen seen_left sent qs → trace_place site go env p ≡ Err e → trace_places site go env all ≡ Err e
+raised site t go env all p left seen seen_left sent qs e h met = h.raises e (ap (λ s. both item s (trace_places site go env left)) met)
 
 -- no place is left
-pub ended : {X : Type 0} (t : Nodes) (go : Deeper Items) (env : Env) (all : List Place) (seen seen_left : Items → List X) (sent : List X) (qs : Prints)
-    → Progress t go env all [] seen seen_left sent qs → seen_left no_items ≡ [] → Whole t go env all seen sent qs
-ended t go env all seen seen_left sent qs h none =
+pub ended : {X : Type 0} (site : Site) (t : Nodes) (go : Deeper Items) (env : Env) (all : List Place) (seen seen_left : Items → List X) (sent : List X) (qs : Prints)
+    → Progress site t go env all [] seen seen_left sent qs → seen_left no_items ≡ [] → Whole site t go env all seen sent qs
+ended site t go env all seen seen_left sent qs h none =
     let w = h.goes no_items no_prints refl tt in
     record {
       items = w.items;
       met = w.met;
       sent_is = w.sent_is ∙ ap (λ l. sent ++ l) none ∙ append-nil sent;
-      remembered = subst (λ z. RemembersAll t env z all) (join_none qs) w.remembered;
+      remembered = subst (λ z. RemembersAll site t env z all) (join_none qs) w.remembered;
     }
 
 -- the same of rows
-pub record WholeRows {X : Type 0} (t : Nodes) (go : Deeper Items) (envs : List Env) (body : Nodes) (seen : ItemRows → List X) (sent : List X) (qs : RowPrints) : Type 0 where
+pub record WholeRows {X : Type 0} (site : Site) (t : Nodes) (go : Deeper Items) (envs : List Env) (body : Nodes) (seen : ItemRows → List X) (sent : List X) (qs : RowPrints) : Type 0 where
   pub rows : ItemRows
   pub met : trace_rows go body envs ≡ Ok rows
   pub sent_is : seen rows ≡ sent
-  pub remembered : RemembersRows t envs qs body
+  pub remembered : RemembersRows site t envs qs body
 
-pub record RowProgress {X : Type 0} (t : Nodes) (go : Deeper Items) (all left : List Env) (body : Nodes) (seen : ItemRows → List X) (sent : List X) (qs : RowPrints) : Type 0 where
+pub record RowProgress {X : Type 0} (site : Site) (t : Nodes) (go : Deeper Items) (all left : List Env) (body : Nodes) (seen : ItemRows → List X) (sent : List X) (qs : RowPrints) : Type 0 where
   pub raises : (e : Raise) → trace_rows go body left ≡ Err e → trace_rows go body all ≡ Err e
-  pub goes : (rs : ItemRows) (ss : RowPrints) → trace_rows go body left ≡ Ok rs → RemembersRows t left ss body → WholeRows t go all body seen (sent ++ seen rs) (join_rows qs ss)
+  pub goes : (rs : ItemRows) (ss : RowPrints) → trace_rows go body left ≡ Ok rs → RemembersRows site t left ss body → WholeRows site t go all body seen (sent ++ seen rs) (join_rows qs ss)
 
-pub begun_rows : {X : Type 0} (t : Nodes) (go : Deeper Items) (envs : List Env) (body : Nodes) (seen : ItemRows → List X) → RowProgress t go envs envs body seen [] no_row_prints
-begun_rows t go envs body seen = record { raises = λ e h. h; goes = λ rs ss h k. record { rows = rs; met = h; sent_is = refl; remembered = k } }
+pub begun_rows : {X : Type 0} (site : Site) (t : Nodes) (go : Deeper Items) (envs : List Env) (body : Nodes) (seen : ItemRows → List X) → RowProgress site t go envs envs body seen [] no_row_prints
+begun_rows site t go envs body seen = record { raises = λ e h. h; goes = λ rs ss h k. record { rows = rs; met = h; sent_is = refl; remembered = k } }
 
-pub further_row : {X : Type 0} (t : Nodes) (go : Deeper Items) (all : List Env) (env : Env) (left : List Env) (body : Nodes) (seen : ItemRows → List X) (sent : List X) (qs : RowPrints) (is : Items) (x : X) (q : Prints)
-    → RowProgress t go all (env ∷ left) body seen sent qs → go env body ≡ Ok is → RemembersAll t env q (places_in body) → ((rs : ItemRows) → seen (item_row is rs) ≡ x ∷ seen rs)
-    → RowProgress t go all left body seen (sent ++ x ∷ []) (join_rows qs (row_prints q no_row_prints))
-further_row t go all env left body seen sent qs is x q h met kept one = record {
+pub further_row : {X : Type 0} (site : Site) (t : Nodes) (go : Deeper Items) (all : List Env) (env : Env) (left : List Env) (body : Nodes) (seen : ItemRows → List X) (sent : List X) (qs : RowPrints) (is : Items) (x : X) (q : Prints)
+    → RowProgress site t go all (env ∷ left) body seen sent qs → go env body ≡ Ok is → RemembersAll site t env q (places_in body) → ((rs : ItemRows) → seen (item_row is rs) ≡ x ∷ seen rs)
+    → RowProgress site t go all left body seen (sent ++ x ∷ []) (join_rows qs (row_prints q no_row_prints))
+further_row site t go all env left body seen sent qs is x q h met kept one = record {
   raises = λ e r. h.raises e (ap (λ s. both item_row s (trace_rows go body left)) met ∙ ap (both item_row (Ok is)) r);
   goes = λ rs ss r k.
       let w = h.goes (item_row is rs) (row_prints q ss) (ap (λ s. both item_row s (trace_rows go body left)) met ∙ ap (both item_row (Ok is)) r) (kept, k) in
@@ -114,21 +113,21 @@ further_row t go all env left body seen sent qs is x q h met kept one = record {
         rows = w.rows;
         met = w.met;
         sent_is = w.sent_is ∙ ap (λ l. sent ++ l) (one rs) ∙ one_after sent x (seen rs);
-        remembered = subst (λ z. RemembersRows t all z body) (sym (join_rows_assoc qs (row_prints q no_row_prints) ss)) w.remembered;
+        remembered = subst (λ z. RemembersRows site t all z body) (sym (join_rows_assoc qs (row_prints q no_row_prints) ss)) w.remembered;
       };
 }
 
-pub raised_row : {X : Type 0} (t : Nodes) (go : Deeper Items) (all : List Env) (env : Env) (left : List Env) (body : Nodes) (seen : ItemRows → List X) (sent : List X) (qs : RowPrints) (e : Raise)
-    → RowProgress t go all (env ∷ left) body seen sent qs → go env body ≡ Err e → trace_rows go body all ≡ Err e
-raised_row t go all env left body seen sent qs e h met = h.raises e (ap (λ s. both item_row s (trace_rows go body left)) met)
+pub raised_row : {X : Type 0} (site : Site) (t : Nodes) (go : Deeper Items) (all : List Env) (env : Env) (left : List Env) (body : Nodes) (seen : ItemRows → List X) (sent : List X) (qs : RowPrints) (e : Raise)
+    → RowProgress site t go all (env ∷ left) body seen sent qs → go env body ≡ Err e → trace_rows go body all ≡ Err e
+raised_row site t go all env left body seen sent qs e h met = h.raises e (ap (λ s. both item_row s (trace_rows go body left)) met)
 
-pub ended_rows : {X : Type 0} (t : Nodes) (go : Deeper Items) (all : List Env) (body : Nodes) (seen : ItemRows → List X) (sent : List X) (qs : RowPrints)
-    → RowProgress t go all [] body seen sent qs → seen no_item_rows ≡ [] → WholeRows t go all body seen sent qs
-ended_rows t go all body seen sent qs h none =
+pub ended_rows : {X : Type 0} (site : Site) (t : Nodes) (go : Deeper Items) (all : List Env) (body : Nodes) (seen : ItemRows → List X) (sent : List X) (qs : RowPrints)
+    → RowProgress site t go all [] body seen sent qs → seen no_item_rows ≡ [] → WholeRows site t go all body seen sent qs
+ended_rows site t go all body seen sent qs h none =
     let w = h.goes no_item_rows no_row_prints refl tt in
     record {
       rows = w.rows;
       met = w.met;
       sent_is = w.sent_is ∙ ap (λ l. sent ++ l) none ∙ append-nil sent;
-      remembered = subst (λ z. RemembersRows t all z body) (join_rows_none qs) w.remembered;
+      remembered = subst (λ z. RemembersRows site t all z body) (join_rows_none qs) w.remembered;
     }

@@ -4,7 +4,7 @@ use Rattle.value_core.specs.Value.{Value}
 use Rattle.value_core.specs.declared.raise.Raise.{Raise}
 use Rattle.ast_core.specs.Free.{without, bound, free_names, free_nodes, free_place, free_clauses}
 use Rattle.ast_core.specs.Places.{cut}
-use Rattle.ast_core.specs.Syntax.{Place, put, attribute, spread, if_place, case_place, for_place, Nodes, no_nodes, node, Clauses}
+use Rattle.ast_core.specs.Syntax.{Place, put, attribute, spread, if_place, case_place, for_place, call, render_slot, Nodes, no_nodes, node, Clauses}
 use Rattle.doc_model.specs.Environment.{Env, bind}
 use Rattle.doc_model.specs.Evaluation.{Res, then_do, on_res, eval_expr, is_true}
 use Rattle.doc_model.specs.Scopes.{Site, Deeper, Chosen, chosen}
@@ -57,6 +57,8 @@ deciding_read (spread e) a b k = k
 deciding_read (if_place t m n) a b k = agree_left a b (free_names t) (free_nodes m) (agree_left a b (free_names t ++ free_nodes m) (free_nodes n) k)
 deciding_read (case_place e cs) a b k = agree_left a b (free_names e) (free_clauses cs) k
 deciding_read (for_place p e body) a b k = k
+deciding_read (call t xs c es) a b k = k
+deciding_read (render_slot e f) a b k = k
 deciding_read _ a b k = tt
 
 -- the same branch is taken where the names that decide are the same

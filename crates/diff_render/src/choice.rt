@@ -2,8 +2,8 @@
 ghost use Rattle.std.specs.Prelude.{if◌then◌else◌, Some};
 ghost use Rattle.value_core.specs.View.{view};
 ghost use Rattle.ast_core.specs.Syntax.{Nodes, Place};
-ghost use Rattle.slot_compile.specs.Numbering.{clauses_in, else_in, node_at};
-ghost use Rattle.slot_compile.specs.Places.{ElseStands, IsPlace};
+ghost use Rattle.slot_compile.specs.Numbering.{node_at};
+ghost use Rattle.slot_compile.specs.Places.{ElseStands, IsPlace, clauses_in, else_in};
 ghost use Rattle.doc_model.specs.Scopes.{chosen};
 ghost use Rattle.diff_render.specs.Answers.{Answers};
 ghost use Rattle.diff_render.specs.Scope.{scope_in};

@@ -2,6 +2,7 @@ use Rattle.std.proofs.Common.{◌≡◌, ◌≤◌, ◌-◌, Ok, Err, Some, None
 use Rattle.std.specs.Vec.Iter.{into_iter_items}
 use Rattle.ast_core.specs.Places.{places_in}
 use Rattle.slot_compile.specs.Numbering.{node_at, place_in}
+use Rattle.bundle_compile.specs.Site.{site_in}
 use Rattle.slot_compile.specs.Template.{syntax_of}
 use Rattle.doc_model.specs.Environment.{reading, same_reading}
 use Rattle.doc_model.specs.Tracing.{trace}
@@ -10,7 +11,7 @@ use Rattle.diff_render.specs.Again.{GivesChange, deciding}
 use Rattle.diff_render.specs.Answers.{Answers}
 use Rattle.diff_render.specs.Prints.{Remembers, of_rows, of_text, print_view, prints_view, rows_view}
 use Rattle.diff_render.specs.Renders.{AreLean}
-use Rattle.diff_render.specs.Scope.{alone, scope_in}
+use Rattle.diff_render.specs.Scope.{scope_in}
 use Rattle.diff_render.specs.Taken.{IsTaken, is_loop, taken}
 use Rattle.diff_render.specs.Tracked.{scope_now, scope_then}
 use Rattle.diff_render.specs.Values.{options_seen}
@@ -26,14 +27,16 @@ use Rattle.diff_render.proofs.lean.Lean.+lean.Goals as goal
 
 pub place-returns-in-Put-clause-change : goal.place-returns-in-Put-clause-change
 place-returns-in-Put-clause-change t c before old settled noted met held =
+    let site = site_in c.args.self.bundle.now in
     let s = syntax_of c.args.self.compiled.now in
     let a = scope_then before c.args.tracking.now in
     let b = scope_now c.args.self.assigns.now c.args.tracking.now in
     let names = deciding (place_in s c.args.dynamic.now) in
-    text_again s (trace alone c.args.levels) a b c.args.dynamic.now c.in-Put.is old c.text.result (differs c.is_changed.result (same_reading (reading a names) (reading b names)) (c.is_changed.ensures before settled) c.if-not-is_changed.false) met c.text.ensures
+    text_again site s (trace site c.args.levels) a b c.args.dynamic.now c.in-Put.is old c.text.result (differs c.is_changed.result (same_reading (reading a names) (reading b names)) (c.is_changed.ensures before settled) c.if-not-is_changed.false) met c.text.ensures
 
 pub place-returns-in-For-clause-change : goal.place-returns-in-For-clause-change
 place-returns-in-For-clause-change t c before old settled noted met held =
+    let site = site_in c.args.self.bundle.now in
     let s = syntax_of c.args.self.compiled.now in
     let names = deciding (place_in s c.args.dynamic.now) in
     let a = scope_then before c.args.tracking.now in
@@ -43,49 +46,54 @@ place-returns-in-For-clause-change t c before old settled noted met held =
 
 pub branch-returns-in-None-clause-change : goal.branch-returns-in-None-clause-change
 branch-returns-in-None-clause-change t c branching before old settled noted met held =
+    let site = site_in c.args.self.bundle.now in
     let s = syntax_of c.args.self.compiled.now in
     let b = scope_now c.args.self.assigns.now c.args.tracking.now in
     let p = place_in s c.args.dynamic.now in
     let given = subst (λ o. Answers (IsTaken s) (Ok o) (taken b p)) c.in-None.is (subst (λ as'. Answers (IsTaken s) (Ok c.in_ok-choice.field-0) (taken (scope_in as' c.args.tracking.now.variables) p)) c.assigns.ensures (c.in_ok-choice.ensures s c.requires)) in
-    none_again s (trace alone c.args.levels) (scope_then before c.args.tracking.now) b p old (print_view c.args.print) c.emptied.result branching given held met c.emptied.ensures
+    none_again site s (trace site c.args.levels) (scope_then before c.args.tracking.now) b p old (print_view c.args.print) c.emptied.result branching given held met c.emptied.ensures
 
 pub branch-returns-in-Some-clause-change : goal.branch-returns-in-Some-clause-change
 branch-returns-in-Some-clause-change t c branching before old settled noted met held =
+    let site = site_in c.args.self.bundle.now in
     let s = syntax_of c.args.self.compiled.now in
     let b = scope_now c.args.self.assigns.now c.args.tracking.now in
     let p = place_in s c.args.dynamic.now in
     let given = subst (λ o. Answers (IsTaken s) (Ok o) (taken b p)) c.in-Some.is (subst (λ as'. Answers (IsTaken s) (Ok c.in_ok-choice.field-0) (taken (scope_in as' c.args.tracking.now.variables) p)) c.assigns.ensures (c.in_ok-choice.ensures s c.requires)) in
-    some_taken s (trace alone c.args.levels) (scope_then before c.args.tracking.now) b p c.in-Some.choice given (λ d took is. c.taken.ensures.change p before old d settled noted met held branching took is)
+    some_taken site s (trace site c.args.levels) (scope_then before c.args.tracking.now) b p c.in-Some.choice given (λ d took is. c.taken.ensures.change p before old d settled noted met held branching took is)
 
 pub branch-returns-in_err-choice-clause-change : goal.branch-returns-in_err-choice-clause-change
 branch-returns-in_err-choice-clause-change t c branching before old settled noted met held =
+    let site = site_in c.args.self.bundle.now in
     let s = syntax_of c.args.self.compiled.now in
     let b = scope_now c.args.self.assigns.now c.args.tracking.now in
-    let h = choice_fault s (trace alone c.args.levels) (scope_then before c.args.tracking.now) b (place_in s c.args.dynamic.now) old c.in_err-choice.field-0.0 branching
+    let h = choice_fault site s (trace site c.args.levels) (scope_then before c.args.tracking.now) b (place_in s c.args.dynamic.now) old c.in_err-choice.field-0.0 branching
     (subst (λ as'. Answers (IsTaken s) (Err c.in_err-choice.field-0.0) (taken (scope_in as' c.args.tracking.now.variables) (place_in s c.args.dynamic.now))) c.assigns.ensures (c.in_err-choice.ensures s c.requires)) in
     search (rules, h)
 
 pub taken-returns-in-Branch-clause-change : goal.taken-returns-in-Branch-clause-change
 taken-returns-in-Branch-clause-change t c p before old is settled noted met held branching took choice_is =
+    let site = site_in c.args.self.bundle.now in
     let s = syntax_of c.args.self.compiled.now in
     let a = scope_then before c.args.tracking.now in
-    let shown = subst (λ z. Remembers s a z p) (ap print_view c.in-Branch.is ∙ branch_print c.in-Branch.before c.in-Branch.places) held in
+    let shown = subst (λ z. Remembers site s a z p) (ap print_view c.in-Branch.is ∙ branch_print c.in-Branch.before c.in-Branch.places) held in
     c.kept.ensures.change p before old settled noted met
-    (stays s (trace alone c.args.levels) a (scope_now c.args.self.assigns.now c.args.tracking.now) p c.in-Branch.before c.args.choice (prints_view c.in-Branch.places) is shown branching took choice_is c.if-before-choice.false)
+    (stays site s (trace site c.args.levels) a (scope_now c.args.self.assigns.now c.args.tracking.now) p c.in-Branch.before c.args.choice (prints_view c.in-Branch.places) is shown branching took choice_is c.if-before-choice.false)
 
 pub taken-returns-then-before-choice-clause-change : goal.taken-returns-then-before-choice-clause-change
 taken-returns-then-before-choice-clause-change t c p before old is settled noted met held branching took choice_is =
+    let site = site_in c.args.self.bundle.now in
     let s = syntax_of c.args.self.compiled.now in
     let a = scope_then before c.args.tracking.now in
-    let shown = subst (λ z. Remembers s a z p) (ap print_view c.in-Branch.is ∙ branch_print c.in-Branch.before c.in-Branch.places) held in
+    let shown = subst (λ z. Remembers site s a z p) (ap print_view c.in-Branch.is ∙ branch_print c.in-Branch.before c.in-Branch.places) held in
     c.entered.ensures.change p old is branching took choice_is
-    (apart_branch s (trace alone c.args.levels) a (scope_now c.args.self.assigns.now c.args.tracking.now) p old c.in-Branch.before (prints_view c.in-Branch.places) is.index shown branching met (λ e. c.if-before-choice.true (e ∙ sym choice_is.index)))
+    (apart_branch site s (trace site c.args.levels) a (scope_now c.args.self.assigns.now c.args.tracking.now) p old c.in-Branch.before (prints_view c.in-Branch.places) is.index shown branching met (λ e. c.if-before-choice.true (e ∙ sym choice_is.index)))
 
 pub taken-returns : goal.taken-returns
 taken-returns t c = record {
   change = λ p before old is settled noted met held branching took choice_is.
       c.entered-in-Text.ensures.change p old is branching took choice_is
-      (apart_other (syntax_of c.args.self.compiled.now) (trace alone c.args.levels) (scope_then before c.args.tracking.now) (scope_now c.args.self.assigns.now c.args.tracking.now) p old c.args.print is.index c.in-Text.is held branching met);
+      (apart_other site (syntax_of c.args.self.compiled.now) (trace site c.args.levels) (scope_then before c.args.tracking.now) (scope_now c.args.self.assigns.now c.args.tracking.now) p old c.args.print is.index c.in-Text.is held branching met);
   scope = c.entered-in-Text.ensures.scope;
 }
 
@@ -93,30 +101,33 @@ taken-returns t c = record {
 
 pub unchanged-returns-in-Branch-clause-change : goal.unchanged-returns-in-Branch-clause-change
 unchanged-returns-in-Branch-clause-change t c d before old settled noted met held same =
+    let site = site_in c.args.self.bundle.now in
     let s = syntax_of c.args.self.compiled.now in
     let a = scope_then before c.args.tracking.now in
-    let shown = subst (λ z. Remembers s a z (place_in s d)) (ap print_view c.in-Branch.is ∙ branch_print c.in-Branch.choice c.in-Branch.places) held in
+    let shown = subst (λ z. Remembers site s a z (place_in s d)) (ap print_view c.in-Branch.is ∙ branch_print c.in-Branch.choice c.in-Branch.places) held in
     c.kept.ensures.change (place_in s d) before old settled noted met
-    (branch_same s (trace alone c.args.levels) (trace_alike alone c.args.levels) a (scope_now c.args.self.assigns.now c.args.tracking.now) refl refl d c.in-Branch.choice (prints_view c.in-Branch.places) shown same)
+    (branch_same site s (trace site c.args.levels) (trace_alike site c.args.levels) a (scope_now c.args.self.assigns.now c.args.tracking.now) refl refl d c.in-Branch.choice (prints_view c.in-Branch.places) shown same)
 
 pub unchanged-returns-in-Rows-clause-change : goal.unchanged-returns-in-Rows-clause-change
 unchanged-returns-in-Rows-clause-change t c d before old settled noted met held same =
+    let site = site_in c.args.self.bundle.now in
     let s = syntax_of c.args.self.compiled.now in
-    let go = trace alone c.args.levels in
+    let go = trace site c.args.levels in
     let a = scope_then before c.args.tracking.now in
     let b = scope_now c.args.self.assigns.now c.args.tracking.now in
     let seen = rows_print c.in-Rows.rows in
-    let shown = subst (λ z. Remembers s a z (place_in s d)) (ap print_view c.in-Rows.is ∙ seen) held in
-    quiet_told s go a b (place_in s d) old (of_rows (rows_view c.in-Rows.rows)) _ seen (rows_same s go (trace_alike alone c.args.levels) a b refl refl d old (rows_view c.in-Rows.rows) met shown same)
+    let shown = subst (λ z. Remembers site s a z (place_in s d)) (ap print_view c.in-Rows.is ∙ seen) held in
+    quiet_told site s go a b (place_in s d) old (of_rows (rows_view c.in-Rows.rows)) _ seen (rows_same site s go (trace_alike site c.args.levels) a b refl refl d old (rows_view c.in-Rows.rows) met shown same)
 
 pub unchanged-returns-in-Text-clause-change : goal.unchanged-returns-in-Text-clause-change
 unchanged-returns-in-Text-clause-change t c d before old settled noted met held same =
+    let site = site_in c.args.self.bundle.now in
     let s = syntax_of c.args.self.compiled.now in
-    let go = trace alone c.args.levels in
+    let go = trace site c.args.levels in
     let a = scope_then before c.args.tracking.now in
     let b = scope_now c.args.self.assigns.now c.args.tracking.now in
-    let shown = subst (λ z. Remembers s a z (place_in s d)) (ap print_view c.in-Text.is ∙ text_print) held in
-    quiet_told s go a b (place_in s d) old of_text _ text_print (text_same s go (trace_alike alone c.args.levels) a b refl refl d old met shown same)
+    let shown = subst (λ z. Remembers site s a z (place_in s d)) (ap print_view c.in-Text.is ∙ text_print) held in
+    quiet_told site s go a b (place_in s d) old of_text _ text_print (text_same site s go (trace_alike site c.args.levels) a b refl refl d old met shown same)
 
 -- ---- a branch that stays
 
@@ -139,30 +150,32 @@ kept-returns-in_err-changes-clause-change t c p before old settled noted met sta
 -- ---- the places of a body
 
 pub places-place-requires : goal.places-place-requires
-places-place-requires t c = (omega (arith, c.if-levels-eq0.false), reads_at (syntax_of c.args.self.compiled.now) c.dynamics-dynamic-items.result.now c.places.dynamic-index c.dynamic-item.result c.dynamics-dynamic-items.ensures.reads c.places-test.true c.dynamic-item.is)
+places-place-requires t c = (omega (arith, c.if-levels-eq0.false), reads_at site (syntax_of c.args.self.compiled.now) c.dynamics-dynamic-items.result.now c.places.dynamic-index c.dynamic-item.result c.dynamics-dynamic-items.ensures.reads c.places-test.true c.dynamic-item.is)
 
 pub places-places-init : goal.places-places-init
 places-places-init t c =
+    let site = site_in c.args.self.bundle.now in
     let s = syntax_of c.args.self.compiled.now in
     let own : into_iter_items c.into_iter-before.result ≡ c.args.prints = search rules in
     record {
       same = refl;
       going = λ before old settled noted met held.
-          left_start s c.args.levels (scope_then before c.args.tracking.now) (scope_now c.args.self.assigns.now c.args.tracking.now) (node_at s c.args.body) c.dynamics-dynamic-items.result.now old
+          left_start site s c.args.levels (scope_then before c.args.tracking.now) (scope_now c.args.self.assigns.now c.args.tracking.now) (node_at s c.args.body) c.dynamics-dynamic-items.result.now old
           c.args.prints _ c.new-after.result c.new-changes.result c.if-levels-eq0.false c.dynamics-dynamic-items.ensures.places met held own c.new-changes.ensures c.new-after.ensures;
       counted = search rules;
     }
 
 pub places-places-preserved : goal.places-places-preserved
 places-places-preserved t c =
+    let site = site_in c.args.self.bundle.now in
     let s = syntax_of c.args.self.compiled.now in
     record {
       same = c.in_ok-change.ensures.scope ∙ c.places.invariant.same;
       going = λ before old settled noted met held.
-          left_further s (trace alone (c.args.levels - 1)) (scope_then before c.args.tracking.now) (scope_now c.args.self.assigns.now c.args.tracking.now) (places_in (node_at s c.args.body)) c.dynamics-dynamic-items.result.now
+          left_further site s (trace site (c.args.levels - 1)) (scope_then before c.args.tracking.now) (scope_now c.args.self.assigns.now c.args.tracking.now) (places_in (node_at s c.args.body)) c.dynamics-dynamic-items.result.now
           c.places.dynamic-index c.dynamic-item.result old c.in-Some.print (into_iter_items c.places.before) (into_iter_items c.next.new.self) c.places.changes c.places.after c.places-test.true c.dynamic-item.is c.in-Some.ensures.items
           (c.places.invariant.going before old settled noted met held) c.push.new.self c.in_ok-change.change c.push-in-places.new.self c.in_ok-change.print
-          (λ o was shown. (subst (λ tr. GivesChange c.args.self.compiled.now c.args.self.assigns.now tr (place_in s c.dynamic-item.result) c.in-Some.print (c.args.levels - 1) (Ok (c.in_ok-change.change, c.in_ok-change.print)))
+          (λ o was shown. (subst (λ tr. GivesChange site c.args.self.compiled.now c.args.self.assigns.now tr (place_in s c.dynamic-item.result) c.in-Some.print (c.args.levels - 1) (Ok (c.in_ok-change.change, c.in_ok-change.print)))
           c.places.invariant.same c.in_ok-change.ensures.change) before o settled noted was shown)
           c.in_ok-push.ensures.ok c.in_ok-push-2.ensures.ok;
       counted = omega (arith, ap length c.in-Some.ensures.items, c.in-Some.ensures.cases.1, c.places.invariant.counted);
@@ -170,27 +183,30 @@ places-places-preserved t c =
 
 pub places-returns-clause-changes : goal.places-returns-clause-changes
 places-returns-clause-changes t c before old settled noted met held =
+    let site = site_in c.args.self.bundle.now in
     let s = syntax_of c.args.self.compiled.now in
     let past : length c.dynamics-dynamic-items.result.now ≤ c.places.dynamic-index = omega arith in
-    left_told s c.args.levels (scope_then before c.args.tracking.now) (scope_now c.args.self.assigns.now c.args.tracking.now) (node_at s c.args.body) c.dynamics-dynamic-items.result.now c.places.dynamic-index old
+    left_told site s c.args.levels (scope_then before c.args.tracking.now) (scope_now c.args.self.assigns.now c.args.tracking.now) (node_at s c.args.body) c.dynamics-dynamic-items.result.now c.places.dynamic-index old
     (into_iter_items c.places.before) c.places.after c.places.changes c.if-levels-eq0.false past (c.places.invariant.going before old settled noted met held)
 
 pub places-returns-in_default-clause-changes : goal.places-returns-in_default-clause-changes
 places-returns-in_default-clause-changes t c before old settled noted met held =
+    let site = site_in c.args.self.bundle.now in
     let s = syntax_of c.args.self.compiled.now in
     let none = none_left (into_iter_items c.places.before) _ c.in_default.ensures.cases.0 c.places.invariant.counted in
-    absurd (no_print_left s (trace alone (c.args.levels - 1)) (scope_then before c.args.tracking.now) (scope_now c.args.self.assigns.now c.args.tracking.now) (places_in (node_at s c.args.body)) c.dynamics-dynamic-items.result.now
+    absurd (no_print_left site s (trace site (c.args.levels - 1)) (scope_then before c.args.tracking.now) (scope_now c.args.self.assigns.now c.args.tracking.now) (places_in (node_at s c.args.body)) c.dynamics-dynamic-items.result.now
     c.places.dynamic-index c.dynamic-item.result old (into_iter_items c.places.before) (options_seen c.places.changes) (prints_view c.places.after) c.places-test.true c.dynamic-item.is none (c.places.invariant.going before old settled noted met held))
 
 pub places-returns-in_err-change-clause-changes : goal.places-returns-in_err-change-clause-changes
 places-returns-in_err-change-clause-changes t c before old settled noted met held =
+    let site = site_in c.args.self.bundle.now in
     let s = syntax_of c.args.self.compiled.now in
     let b = scope_now c.args.self.assigns.now c.args.tracking.now in
     let ns = node_at s c.args.body in
     let f = c.in_err-change.field-0.0 in
-    let h = left_fault s (trace alone (c.args.levels - 1)) (scope_then before c.args.tracking.now) b (places_in ns) c.dynamics-dynamic-items.result.now
+    let h = left_fault site s (trace site (c.args.levels - 1)) (scope_then before c.args.tracking.now) b (places_in ns) c.dynamics-dynamic-items.result.now
     c.places.dynamic-index c.dynamic-item.result old c.in-Some.print (into_iter_items c.places.before) (into_iter_items c.next.new.self) c.places.changes c.places.after c.places-test.true c.dynamic-item.is c.in-Some.ensures.items
     (c.places.invariant.going before old settled noted met held) f
-    (λ o was shown. (subst (λ tr. GivesChange c.args.self.compiled.now c.args.self.assigns.now tr (place_in s c.dynamic-item.result) c.in-Some.print (c.args.levels - 1) (Err f)) c.places.invariant.same c.in_err-change.ensures.change) before o settled noted was shown) in
-    let k = answers_of (AreLean s b (places_in ns) old) (Err f) _ (trace alone c.args.levels b ns) (sym (below c.args.levels b ns c.if-levels-eq0.false)) h in
+    (λ o was shown. (subst (λ tr. GivesChange site c.args.self.compiled.now c.args.self.assigns.now tr (place_in s c.dynamic-item.result) c.in-Some.print (c.args.levels - 1) (Err f)) c.places.invariant.same c.in_err-change.ensures.change) before o settled noted was shown) in
+    let k = answers_of (AreLean site s b (places_in ns) old) (Err f) _ (trace site c.args.levels b ns) (sym (below c.args.levels b ns c.if-levels-eq0.false)) h in
     search (rules, k)

@@ -7,7 +7,6 @@ use Rattle.doc_model.specs.Tracing.{trace}
 use Rattle.slot_compile.specs.Numbering.{node_at, place_in}
 use Rattle.slot_compile.specs.Template.{syntax_of}
 use Rattle.diff_render.specs.Prints.{RemembersAll, prints_view}
-use Rattle.diff_render.specs.Scope.{alone}
 use Rattle.diff_render.specs.Tracked.{HasSettled, IsNoted, scope_now, scope_then}
 use Rattle.diff_render.specs.Values.{options_seen}
 use Rattle.diff_render.proofs.Kept.{Left}
@@ -36,9 +35,9 @@ abbrev pub invariant-places-places : goal.invariant-places-places
 invariant-places-places l = record {
   same : l.tracking ≡ l.initial.tracking;
   going : (before : Assigns) (old : Items) → HasSettled l.self.assigns.now before → IsNoted l.fn.tracking
-      → trace alone l.levels (scope_then before l.fn.tracking) (node_at (syntax_of l.self.compiled.now) l.body) ≡ Ok old
-      → RemembersAll (syntax_of l.self.compiled.now) (scope_then before l.fn.tracking) (prints_view l.fn.prints) (places_in (node_at (syntax_of l.self.compiled.now) l.body))
-      → Left (syntax_of l.self.compiled.now) (trace alone (l.levels - 1)) (scope_then before l.fn.tracking) (scope_now l.self.assigns.now l.fn.tracking)
+      → trace site l.levels (scope_then before l.fn.tracking) (node_at (syntax_of l.self.compiled.now) l.body) ≡ Ok old
+      → RemembersAll site (syntax_of l.self.compiled.now) (scope_then before l.fn.tracking) (prints_view l.fn.prints) (places_in (node_at (syntax_of l.self.compiled.now) l.body))
+      → Left site (syntax_of l.self.compiled.now) (trace site (l.levels - 1)) (scope_then before l.fn.tracking) (scope_now l.self.assigns.now l.fn.tracking)
       (places_in (node_at (syntax_of l.self.compiled.now) l.body)) (map (place_in (syntax_of l.self.compiled.now)) (drop l.dynamic-index l.dynamic-items)) old
       (prints_view (into_iter_items l.before)) (options_seen l.changes) (prints_view l.after);
   counted : into_iter_len l.before ≡ length (into_iter_items l.before);

@@ -10,11 +10,12 @@ use Rattle.doc_model.specs.Environment.{inside}
 use Rattle.doc_model.specs.Tracing.{trace, trace_place}
 use Rattle.doc_model.specs.Whole.{whole_places, whole_rows}
 use Rattle.slot_compile.specs.Numbering.{node_at, place_in}
+use Rattle.bundle_compile.specs.Site.{site_in}
 use Rattle.slot_compile.specs.Template.{syntax_of}
 use Rattle.diff_render.specs.Answers.{Answers}
 use Rattle.diff_render.specs.Prints.{rows_view}
 use Rattle.diff_render.specs.Renders.{AreWhole, IsWhole}
-use Rattle.diff_render.specs.Scope.{AreScopes, alone, scope_in}
+use Rattle.diff_render.specs.Scope.{AreScopes, scope_in}
 use Rattle.diff_render.specs.Taken.{IsTaken, looped, taken}
 use Rattle.diff_render.specs.Values.{rows_in, rows_seen}
 use Rattle.diff_render.proofs.Places.{branch_told, branches, choice_fault, flat_told, none_taken, places_fault, places_more, places_told, none_left, reads_at, rows_begun, rows_done, rows_fault, rows_more_fault, rows_more_told, rows_told, scopes_fault}
@@ -38,149 +39,163 @@ node-returns-clause-node t c =
 
 pub place-returns-in_err-scopes-in-For-clause-place : goal.place-returns-in_err-scopes-in-For-clause-place
 place-returns-in_err-scopes-in-For-clause-place t c =
+    let site = site_in c.args.self.bundle.now in
     let s = syntax_of c.args.self.compiled.now in
     let as' = c.args.self.assigns.now in
     let vs = c.args.variables.now in
     let b = c.in-For.body in
     let given = subst (λ e. Answers (AreScopes as' vs) (Err c.in_err-scopes-in-For.field-0.0) (looped (scope_in as' vs) (for_place (pattern_view c.in-For.pattern) (expr_view e) (node_at s b)))) c.expr.ensures (c.in_err-scopes-in-For.ensures (node_at s b)) in
-    let h = scopes_fault s c.args.levels as' vs c.args.dynamic.now c.in-For.list c.in-For.pattern c.in-For.reads b c.in-For.is c.in_err-scopes-in-For.field-0.0 given in
+    let h = scopes_fault site s c.args.levels as' vs c.args.dynamic.now c.in-For.list c.in-For.pattern c.in-For.reads b c.in-For.is c.in_err-scopes-in-For.field-0.0 given in
     search (rules, h)
 
 pub place-returns-in_err-rows-in-For-clause-place : goal.place-returns-in_err-rows-in-For-clause-place
 place-returns-in_err-rows-in-For-clause-place t c =
+    let site = site_in c.args.self.bundle.now in
     let s = syntax_of c.args.self.compiled.now in
     let as' = c.args.self.assigns.now in
     let vs = c.args.variables.now in
     let b = c.in-For.body in
     let given = subst (λ e. Answers (AreScopes as' vs) (Ok c.in_ok-scopes-in-For.scopes) (looped (scope_in as' vs) (for_place (pattern_view c.in-For.pattern) (expr_view e) (node_at s b)))) c.expr.ensures (c.in_ok-scopes-in-For.ensures (node_at s b)) in
-    let h = rows_fault s c.args.levels as' vs c.args.dynamic.now c.in-For.list c.in-For.pattern c.in-For.reads b c.in-For.is c.in_ok-scopes-in-For.scopes c.in_err-rows-in-For.field-0.0 given c.in_err-rows-in-For.ensures.rows in
+    let h = rows_fault site s c.args.levels as' vs c.args.dynamic.now c.in-For.list c.in-For.pattern c.in-For.reads b c.in-For.is c.in_ok-scopes-in-For.scopes c.in_err-rows-in-For.field-0.0 given c.in_err-rows-in-For.ensures.rows in
     search (rules, h)
 
 pub place-returns-in_ok-value-in-For-clause-place : goal.place-returns-in_ok-value-in-For-clause-place
 place-returns-in_ok-value-in-For-clause-place t c =
+    let site = site_in c.args.self.bundle.now in
     let s = syntax_of c.args.self.compiled.now in
     let as' = c.args.self.assigns.now in
     let vs = c.args.variables.now in
     let b = c.in-For.body in
     let given = subst (λ e. Answers (AreScopes as' vs) (Ok c.in_ok-scopes-in-For.scopes) (looped (scope_in as' vs) (for_place (pattern_view c.in-For.pattern) (expr_view e) (node_at s b)))) c.expr.ensures (c.in_ok-scopes-in-For.ensures (node_at s b)) in
-    rows_told s c.args.levels as' vs c.args.dynamic.now c.in-For.list c.in-For.pattern c.in-For.reads b c.in-For.is c.in_ok-scopes-in-For.scopes c.in_ok-value-in-For.value c.in_ok-rows-in-For.rows c.in_ok-rows-in-For.prints given
+    rows_told site s c.args.levels as' vs c.args.dynamic.now c.in-For.list c.in-For.pattern c.in-For.reads b c.in-For.is c.in_ok-scopes-in-For.scopes c.in_ok-value-in-For.value c.in_ok-rows-in-For.rows c.in_ok-rows-in-For.prints given
     c.in_ok-rows-in-For.ensures.rows c.in_ok-value-in-For.ensures
 
 pub place-returns-in_err-choice-in-If-clause-place : goal.place-returns-in_err-choice-in-If-clause-place
 place-returns-in_err-choice-in-If-clause-place t c =
+    let site = site_in c.args.self.bundle.now in
     let s = syntax_of c.args.self.compiled.now in
-    let h = choice_fault s c.args.levels (scope_in c.args.self.assigns.now c.args.variables.now) (place_in s c.args.dynamic.now) c.in_err-choice-in-If.field-0.0 (branches s c.args.dynamic.now c.in-If.is) (c.in_err-choice-in-If.ensures s c.requires) in
+    let h = choice_fault site s c.args.levels (scope_in c.args.self.assigns.now c.args.variables.now) (place_in s c.args.dynamic.now) c.in_err-choice-in-If.field-0.0 (branches site s c.args.dynamic.now c.in-If.is) (c.in_err-choice-in-If.ensures s c.requires) in
     search (rules, h)
 
 pub place-returns-in-Some-clause-place : goal.place-returns-in-Some-clause-place
 place-returns-in-Some-clause-place t c =
+    let site = site_in c.args.self.bundle.now in
     let s = syntax_of c.args.self.compiled.now in
     let env = scope_in c.args.self.assigns.now c.args.variables.now in
     let given = subst (λ o. Answers (IsTaken s) (Ok o) (taken env (place_in s c.args.dynamic.now))) c.in-Some.is (c.in_ok-choice-in-If.ensures s c.requires) in
-    branch_told s c.args.levels env (place_in s c.args.dynamic.now) c.in-Some.choice c.branch-self.result (branches s c.args.dynamic.now c.in-If.is) given c.branch-self.ensures.branch
+    branch_told site s c.args.levels env (place_in s c.args.dynamic.now) c.in-Some.choice c.branch-self.result (branches site s c.args.dynamic.now c.in-If.is) given c.branch-self.ensures.branch
 
 pub place-returns-in-None-clause-place : goal.place-returns-in-None-clause-place
 place-returns-in-None-clause-place t c =
+    let site = site_in c.args.self.bundle.now in
     let s = syntax_of c.args.self.compiled.now in
     let env = scope_in c.args.self.assigns.now c.args.variables.now in
     let given = subst (λ o. Answers (IsTaken s) (Ok o) (taken env (place_in s c.args.dynamic.now))) c.in-None.is (c.in_ok-choice-in-If.ensures s c.requires) in
-    none_taken s c.args.levels env (place_in s c.args.dynamic.now) c.new.result (branches s c.args.dynamic.now c.in-If.is) given c.new.ensures
+    none_taken site s c.args.levels env (place_in s c.args.dynamic.now) c.new.result (branches site s c.args.dynamic.now c.in-If.is) given c.new.ensures
 
 pub place-returns-in_ok-text-in-Put-clause-place : goal.place-returns-in_ok-text-in-Put-clause-place
 place-returns-in_ok-text-in-Put-clause-place t c =
+    let site = site_in c.args.self.bundle.now in
     let s = syntax_of c.args.self.compiled.now in
-    flat_told s (trace alone c.args.levels) (scope_in c.args.self.assigns.now c.args.variables.now) c.args.dynamic.now c.in-Put.is c.in_ok-text-in-Put.text (c.in_ok-text-in-Put.ensures s)
+    flat_told site s (trace site c.args.levels) (scope_in c.args.self.assigns.now c.args.variables.now) c.args.dynamic.now c.in-Put.is c.in_ok-text-in-Put.text (c.in_ok-text-in-Put.ensures s)
 
 -- ---- the places of a body
 
 pub places-returns-then-levels-eq0-clause-places : goal.places-returns-then-levels-eq0-clause-places
 places-returns-then-levels-eq0-clause-places t c =
-    (Deep, ap (λ k. trace alone k (scope_in c.args.self.assigns.now c.args.variables.now) (node_at (syntax_of c.args.self.compiled.now) c.args.body)) c.if-levels-eq0.true)
+    (Deep, ap (λ k. trace site k (scope_in c.args.self.assigns.now c.args.variables.now) (node_at (syntax_of c.args.self.compiled.now) c.args.body)) c.if-levels-eq0.true)
 
 pub places-returns-in_err-value-clause-places : goal.places-returns-in_err-value-clause-places
 places-returns-in_err-value-clause-places t c =
+    let site = site_in c.args.self.bundle.now in
     let s = syntax_of c.args.self.compiled.now in
     let as' = c.args.self.assigns.now in
-    let told = subst (λ vs. Answers (IsWhole s (scope_in as' vs) (place_in s c.dynamic-item.result)) (Err c.in_err-value.field-0.0) (trace_place alone (trace alone (c.args.levels - 1)) (scope_in as' vs) (place_in s c.dynamic-item.result)))
+    let told = subst (λ vs. Answers (IsWhole site s (scope_in as' vs) (place_in s c.dynamic-item.result)) (Err c.in_err-value.field-0.0) (trace_place site (trace site (c.args.levels - 1)) (scope_in as' vs) (place_in s c.dynamic-item.result)))
     c.places.invariant.same c.in_err-value.ensures.place in
-    let h = places_fault s c.args.levels (scope_in as' c.args.variables.now) (node_at s c.args.body) c.dynamics-dynamic-items.result.now c.places.dynamic-index c.dynamic-item.result c.places.values c.places.prints c.in_err-value.field-0.0
+    let h = places_fault site s c.args.levels (scope_in as' c.args.variables.now) (node_at s c.args.body) c.dynamics-dynamic-items.result.now c.places.dynamic-index c.dynamic-item.result c.places.values c.places.prints c.in_err-value.field-0.0
     c.if-levels-eq0.false c.places-test.true c.dynamic-item.is c.places.invariant.going told in
     search (rules, h)
 
 pub places-places-preserved : goal.places-places-preserved
 places-places-preserved t c =
+    let site = site_in c.args.self.bundle.now in
     let s = syntax_of c.args.self.compiled.now in
     let as' = c.args.self.assigns.now in
-    let told = subst (λ vs. Answers (IsWhole s (scope_in as' vs) (place_in s c.dynamic-item.result)) (Ok (c.in_ok-value.value, c.in_ok-value.print)) (trace_place alone (trace alone (c.args.levels - 1)) (scope_in as' vs) (place_in s c.dynamic-item.result)))
+    let told = subst (λ vs. Answers (IsWhole site s (scope_in as' vs) (place_in s c.dynamic-item.result)) (Ok (c.in_ok-value.value, c.in_ok-value.print)) (trace_place site (trace site (c.args.levels - 1)) (scope_in as' vs) (place_in s c.dynamic-item.result)))
     c.places.invariant.same c.in_ok-value.ensures.place in
     record {
       same = c.in_ok-value.ensures.scope ∙ c.places.invariant.same;
-      going = places_more s (trace alone (c.args.levels - 1)) (scope_in as' c.args.variables.now) _ c.dynamics-dynamic-items.result.now c.places.dynamic-index c.dynamic-item.result c.places.values c.push.new.self c.in_ok-value.value
+      going = places_more site s (trace site (c.args.levels - 1)) (scope_in as' c.args.variables.now) _ c.dynamics-dynamic-items.result.now c.places.dynamic-index c.dynamic-item.result c.places.values c.push.new.self c.in_ok-value.value
           c.places.prints c.push-in-places.new.self c.in_ok-value.print c.places-test.true c.dynamic-item.is c.places.invariant.going told c.in_ok-push.ensures.ok c.in_ok-push-2.ensures.ok;
     }
 
 pub places-returns-clause-places : goal.places-returns-clause-places
 places-returns-clause-places t c =
+    let site = site_in c.args.self.bundle.now in
     let s = syntax_of c.args.self.compiled.now in
     let past : length c.dynamics-dynamic-items.result.now ≤ c.places.dynamic-index = omega arith in
-    places_told s c.args.levels (scope_in c.args.self.assigns.now c.args.variables.now) (node_at s c.args.body) c.dynamics-dynamic-items.result.now c.places.dynamic-index c.places.values c.places.prints
+    places_told site s c.args.levels (scope_in c.args.self.assigns.now c.args.variables.now) (node_at s c.args.body) c.dynamics-dynamic-items.result.now c.places.dynamic-index c.places.values c.places.prints
     c.if-levels-eq0.false past c.places.invariant.going
 
 -- ---- rows
 
 pub rows-scopes-init : goal.rows-scopes-init
 rows-scopes-init t c =
+    let site = site_in c.args.self.bundle.now in
     let s = syntax_of c.args.self.compiled.now in
     let own : into_iter_items c.into_iter-scope-iterator.result ≡ c.args.scopes = search rules in
     record {
       same = refl;
       going = λ envs are.
-          rows_begun s (trace alone c.args.levels) envs _ (node_at s c.args.body) c.new-rows.result c.new-prints.result
+          rows_begun site s (trace site c.args.levels) envs _ (node_at s c.args.body) c.new-rows.result c.new-prints.result
           (ap (map (λ bs. inside (assigns_view bs) (scope_in c.args.self.assigns.now c.args.variables.now))) own ∙ are) c.new-rows.ensures c.new-prints.ensures;
       counted = search rules;
     }
 
 pub rows-returns-in_err-values-clause-rows : goal.rows-returns-in_err-values-clause-rows
 rows-returns-in_err-values-clause-rows t c envs are =
+    let site = site_in c.args.self.bundle.now in
     let s = syntax_of c.args.self.compiled.now in
     let as' = c.args.self.assigns.now in
     let vs = c.args.variables.now in
     let body = node_at s c.args.body in
-    let go = trace alone c.args.levels in
+    let go = trace site c.args.levels in
     let env = inside (assigns_view c.in-Some.scope) (scope_in as' vs) in
-    let told = subst (λ us. Answers (AreWhole s (inside (assigns_view c.in-Some.scope) (scope_in as' us)) (places_in body)) (Err c.in_err-values.field-0.0) (go (inside (assigns_view c.in-Some.scope) (scope_in as' us)) body))
+    let told = subst (λ us. Answers (AreWhole site s (inside (assigns_view c.in-Some.scope) (scope_in as' us)) (places_in body)) (Err c.in_err-values.field-0.0) (go (inside (assigns_view c.in-Some.scope) (scope_in as' us)) body))
     c.scopes.invariant.same c.in_err-values.ensures.row in
-    let h = rows_more_fault s go envs env (map (λ bs. inside (assigns_view bs) (scope_in as' vs)) (into_iter_items c.next.new.self)) body c.scopes.rows c.scopes.prints c.in_err-values.field-0.0
-    (subst (λ l. RowProgress s go envs (map (λ bs. inside (assigns_view bs) (scope_in as' vs)) l) body (λ rs. rows_in (whole_rows rs)) (rows_seen c.scopes.rows) (rows_view c.scopes.prints)) c.in-Some.ensures.steps.0 (c.scopes.invariant.going envs are)) told in
+    let h = rows_more_fault site s go envs env (map (λ bs. inside (assigns_view bs) (scope_in as' vs)) (into_iter_items c.next.new.self)) body c.scopes.rows c.scopes.prints c.in_err-values.field-0.0
+    (subst (λ l. RowProgress site s go envs (map (λ bs. inside (assigns_view bs) (scope_in as' vs)) l) body (λ rs. rows_in (whole_rows rs)) (rows_seen c.scopes.rows) (rows_view c.scopes.prints)) c.in-Some.ensures.steps.0 (c.scopes.invariant.going envs are)) told in
     search (rules, h)
 
 pub rows-scopes-preserved : goal.rows-scopes-preserved
 rows-scopes-preserved t c =
+    let site = site_in c.args.self.bundle.now in
     let s = syntax_of c.args.self.compiled.now in
     let as' = c.args.self.assigns.now in
     let vs = c.args.variables.now in
     let body = node_at s c.args.body in
-    let go = trace alone c.args.levels in
+    let go = trace site c.args.levels in
     let env = inside (assigns_view c.in-Some.scope) (scope_in as' vs) in
-    let told = subst (λ us. Answers (AreWhole s (inside (assigns_view c.in-Some.scope) (scope_in as' us)) (places_in body)) (Ok (c.in_ok-values.values, c.in_ok-values.print)) (go (inside (assigns_view c.in-Some.scope) (scope_in as' us)) body))
+    let told = subst (λ us. Answers (AreWhole site s (inside (assigns_view c.in-Some.scope) (scope_in as' us)) (places_in body)) (Ok (c.in_ok-values.values, c.in_ok-values.print)) (go (inside (assigns_view c.in-Some.scope) (scope_in as' us)) body))
     c.scopes.invariant.same c.in_ok-values.ensures.row in
     record {
       same = c.in_ok-values.ensures.scope ∙ c.scopes.invariant.same;
       going = λ envs are.
-          rows_more_told s go envs env (map (λ bs. inside (assigns_view bs) (scope_in as' vs)) (into_iter_items c.next.new.self)) body c.scopes.rows c.push.new.self c.new.result c.in_ok-values.values c.scopes.prints c.push-in-scopes.new.self c.in_ok-values.print
-          (subst (λ l. RowProgress s go envs (map (λ bs. inside (assigns_view bs) (scope_in as' vs)) l) body (λ rs. rows_in (whole_rows rs)) (rows_seen c.scopes.rows) (rows_view c.scopes.prints)) c.in-Some.ensures.steps.0 (c.scopes.invariant.going envs are))
+          rows_more_told site s go envs env (map (λ bs. inside (assigns_view bs) (scope_in as' vs)) (into_iter_items c.next.new.self)) body c.scopes.rows c.push.new.self c.new.result c.in_ok-values.values c.scopes.prints c.push-in-scopes.new.self c.in_ok-values.print
+          (subst (λ l. RowProgress site s go envs (map (λ bs. inside (assigns_view bs) (scope_in as' vs)) l) body (λ rs. rows_in (whole_rows rs)) (rows_seen c.scopes.rows) (rows_view c.scopes.prints)) c.in-Some.ensures.steps.0 (c.scopes.invariant.going envs are))
           told c.new.ensures.data c.in_ok-push.ensures.ok c.in_ok-push-2.ensures.ok;
       counted = omega (arith, ap length c.in-Some.ensures.steps.0, c.in-Some.ensures.steps.1, c.scopes.invariant.counted);
     }
 
 pub rows-returns-clause-rows : goal.rows-returns-clause-rows
 rows-returns-clause-rows t c envs are =
+    let site = site_in c.args.self.bundle.now in
     let s = syntax_of c.args.self.compiled.now in
     let as' = c.args.self.assigns.now in
     let vs = c.args.variables.now in
     let none = none_left (into_iter_items c.scopes.scope-iterator) _ c.in-None.ensures.steps.0 c.scopes.invariant.counted in
-    rows_done s (trace alone c.args.levels) envs (node_at s c.args.body) c.scopes.rows c.scopes.prints
-    (subst (λ l. RowProgress s (trace alone c.args.levels) envs (map (λ bs. inside (assigns_view bs) (scope_in as' vs)) l) (node_at s c.args.body) (λ rs. rows_in (whole_rows rs)) (rows_seen c.scopes.rows) (rows_view c.scopes.prints)) none (c.scopes.invariant.going envs are))
+    rows_done site s (trace site c.args.levels) envs (node_at s c.args.body) c.scopes.rows c.scopes.prints
+    (subst (λ l. RowProgress site s (trace site c.args.levels) envs (map (λ bs. inside (assigns_view bs) (scope_in as' vs)) l) (node_at s c.args.body) (λ rs. rows_in (whole_rows rs)) (rows_seen c.scopes.rows) (rows_view c.scopes.prints)) none (c.scopes.invariant.going envs are))
 
 pub places-place-requires : goal.places-place-requires
-places-place-requires t c = (omega (arith, c.if-levels-eq0.false), reads_at (syntax_of c.args.self.compiled.now) c.dynamics-dynamic-items.result.now c.places.dynamic-index c.dynamic-item.result c.dynamics-dynamic-items.ensures.reads c.places-test.true c.dynamic-item.is)
+places-place-requires t c = (omega (arith, c.if-levels-eq0.false), reads_at site (syntax_of c.args.self.compiled.now) c.dynamics-dynamic-items.result.now c.places.dynamic-index c.dynamic-item.result c.dynamics-dynamic-items.ensures.reads c.places-test.true c.dynamic-item.is)

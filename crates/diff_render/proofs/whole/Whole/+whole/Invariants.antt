@@ -8,7 +8,7 @@ use Rattle.doc_model.specs.Whole.{whole_places, whole_rows}
 use Rattle.slot_compile.specs.Numbering.{node_at, place_in}
 use Rattle.slot_compile.specs.Template.{syntax_of}
 use Rattle.diff_render.specs.Prints.{prints_view, rows_view}
-use Rattle.diff_render.specs.Scope.{AreScopes, alone, scope_in}
+use Rattle.diff_render.specs.Scope.{AreScopes, scope_in}
 use Rattle.diff_render.specs.Values.{rows_in, rows_seen, trees_seen, values_seen}
 use Rattle.diff_render.proofs.Progress.{Progress, RowProgress}
 use Rattle.diff_render.proofs.whole.Whole.+whole.Given as goal
@@ -35,7 +35,7 @@ decreases-places l = 6 * l.levels
 abbrev pub invariant-places-places : goal.invariant-places-places
 invariant-places-places l = record {
   same : l.variables ≡ l.initial.variables;
-  going : Progress (syntax_of l.self.compiled.now) (trace alone (l.levels - 1)) (scope_in l.self.assigns.now l.fn.variables)
+  going : Progress site (syntax_of l.self.compiled.now) (trace site (l.levels - 1)) (scope_in l.self.assigns.now l.fn.variables)
       (places_in (node_at (syntax_of l.self.compiled.now) l.body)) (map (place_in (syntax_of l.self.compiled.now)) (drop l.dynamic-index l.dynamic-items))
       (λ is. trees_seen (whole_places is)) (λ is. trees_seen (whole_places is)) (values_seen l.values) (prints_view l.prints);
 }
@@ -44,7 +44,7 @@ abbrev pub invariant-rows-scopes : goal.invariant-rows-scopes
 invariant-rows-scopes l = record {
   same : l.variables ≡ l.initial.variables;
   going : (envs : List Env) → AreScopes l.self.assigns.now l.fn.variables l.fn.scopes envs
-      → RowProgress (syntax_of l.self.compiled.now) (trace alone l.levels) envs
+      → RowProgress site (syntax_of l.self.compiled.now) (trace site l.levels) envs
       (map (λ bs. inside (assigns_view bs) (scope_in l.self.assigns.now l.fn.variables)) (into_iter_items l.scope-iterator)) (node_at (syntax_of l.self.compiled.now) l.body)
       (λ rs. rows_in (whole_rows rs)) (rows_seen l.rows) (rows_view l.prints);
   counted : into_iter_len l.scope-iterator ≡ length (into_iter_items l.scope-iterator);
