@@ -5,10 +5,11 @@ use Rattle.ast_core.specs.ExprView.{expr_view}
 use Rattle.ast_core.specs.Free.{free_body}
 use Rattle.ast_core.specs.NodeView.{attributes_view, generator_view}
 use Rattle.ast_core.specs.Reads.{assigns_in, variables_in}
-use Rattle.ast_core.specs.Syntax.{Attributes, Body, slot_body, Entries, no_entries, entry, Expr, Generator}
-use Rattle.call_form.specs.declared.CallForm.{CallForm}
-use Rattle.call_form.specs.declared.EntryForm.{EntryForm}
-use Rattle.call_form.specs.declared.SlotForm.{SlotForm}
+use Rattle.ast_core.specs.Syntax.{Attributes, Body, Entries, no_entries, entry, Expr, Generator}
+use Rattle.call_form.specs.declared.form.CallForm.{CallForm}
+use Rattle.call_form.specs.declared.form.EntryForm.{EntryForm}
+use Rattle.call_form.specs.declared.form.SlotForm.{SlotForm}
+use Rattle.call_form.specs.Form.{nodes_in, number_of}
 
 -- an entry that is kept
 pub record KeptEntry : Type 0 where
@@ -33,11 +34,11 @@ called f = record { template = f.template; attributes = attributes_view f.attrib
 
 -- a slot body, by its number and what it reads
 abbrev pub slot_called : Body → SlotForm
-slot_called (slot_body n p ns) = record { number = n; reads = record { assigns = assigns_in (free_body (slot_body n p ns)); variables = variables_in (free_body (slot_body n p ns)) } }
+slot_called b = record { number = number_of b; reads = record { assigns = assigns_in (free_body b); variables = variables_in (free_body b) } }
 
 -- content of white space alone is none
 abbrev pub content_called : Body → Option SlotForm
-content_called (slot_body n p ns) = if is_blank ns then None else Some (slot_called (slot_body n p ns))
+content_called b = if is_blank (nodes_in b) then None else Some (slot_called b)
 
 abbrev pub entries_called : Entries → List KeptEntry
 entries_called no_entries = []

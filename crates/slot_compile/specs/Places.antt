@@ -6,7 +6,7 @@ use Rattle.ast_core.specs.Free.{free_place}
 use Rattle.ast_core.specs.PatternView.{pattern_view}
 use Rattle.ast_core.specs.Reads.{assigns_in, variables_in}
 use Rattle.ast_core.specs.Syntax.{Attributes, Body, Entries, Place, put, attribute, spread, if_place, case_place, for_place, call, render_slot, Nodes, no_nodes, node, Clauses, no_clauses, clause}
-use Rattle.call_form.specs.declared.CallForm.{CallForm}
+use Rattle.call_form.specs.declared.form.CallForm.{CallForm}
 use Rattle.call_form.specs.Form.{IsCall}
 use Rattle.slot_compile.specs.declared.compiled.Branch.{Branch}
 use Rattle.slot_compile.specs.declared.compiled.Dynamic.{Dynamic}
