@@ -10,7 +10,7 @@ use Rattle.slot_compile.specs.Numbering.{all_bodies, bodies_in, node_at}
 use Rattle.slot_compile.specs.Stretches.{numbered_from, of_bodies, of_body}
 use Rattle.slot_compile.specs.Tables.{IsBodyOf}
 use Rattle.slot_compile.proofs.Counts.{none_before}
-use Rattle.slot_compile.proofs.Filled.{inside_places, places_filled, places_read}
+use Rattle.slot_compile.proofs.Filled.{inside_places, places_filled}
 use Rattle.slot_compile.proofs.Standing.{Stands, inside_number}
 use Rattle.slot_compile.proofs.StretchParts.{bodies_inside}
 use Rattle.slot_compile.proofs.Tabled.{entry_at, length-bodies}
@@ -25,7 +25,6 @@ of_stretch s ns k b is stand =
     record {
       statics = ap (λ (e : Stretch). e.statics) is;
       places = places_filled s k (places_in ns) b.dynamics places inside;
-      reads = places_read s k (places_in ns) b.dynamics places inside;
     }
 
 pub found : (s : Nodes) (t : Table) (b : Body) (m : ℕ) → entries t ≡ of_bodies 0 (all_bodies s) → m < length t.bodies → b ≡ get_or t.bodies m b → IsBodyOf s (node_at s m) b

@@ -1,3 +1,4 @@
+pub mod Called
 pub mod Counts
 pub mod Elses
 pub mod Filled

@@ -1,5 +1,5 @@
 -- One level of the program's nodes, places and clauses, seen.
-use Rattle.std.proofs.Common.{◌≡◌, ℕ, List, sym, ap, ◌∙◌}
+use Rattle.std.proofs.Common.{◌≡◌, ℕ, List, Option, option_map, sym, ap, ◌∙◌}
 use Rattle.ast_core.specs.declared.expr.Expr.{Expr}
 use Rattle.ast_core.specs.declared.pattern.Pattern.{Pattern}
 use Rattle.ast_core.specs.declared.node.Location.{Location}
@@ -7,17 +7,17 @@ use Rattle.ast_core.specs.declared.node.Attribute.{Attribute}
 use Rattle.ast_core.specs.declared.node.Node.{Node}
 use Rattle.ast_core.specs.declared.node.Place.{Place}
 use Rattle.ast_core.specs.declared.node.Clause.{Clause, out-Clause}
-use Rattle.ast_core.specs.declared.node.Entry.{Entry}
-use Rattle.ast_core.specs.declared.node.SlotBody.{SlotBody}
+use Rattle.ast_core.specs.declared.node.Entry.{Entry, out-Entry}
+use Rattle.ast_core.specs.declared.node.SlotBody.{SlotBody, out-SlotBody}
 use Rattle.ast_core.specs.declared.node.Node.TheOpen.{Node-F, Place-F}
 use Rattle.ast_core.specs.declared.node.Node.TheVariants as form
 use Rattle.ast_core.specs.declared.node.Place.TheVariants as place
 use Rattle.ast_core.specs.declared.node.Node.TheViews.{roll-Node, roll-Place}
-use Rattle.ast_core.specs.declared.node.Node.TheFolds.{map-Node, map-Place, fold-roll-Node, fold-roll-Place, fold_out-Clause}
+use Rattle.ast_core.specs.declared.node.Node.TheFolds.{map-Node, map-Place, fold-roll-Node, fold-roll-Place, fold_out-Clause, fold_out-Entry, fold_out-SlotBody}
 use Rattle.ast_core.specs.Syntax as model
-use Rattle.ast_core.specs.ExprView.{expr_view}
+use Rattle.ast_core.specs.ExprView.{expr_view, or_nil}
 use Rattle.ast_core.specs.PatternView.{pattern_view}
-use Rattle.ast_core.specs.NodeView.{SeenEntry, attributes_view, location_of, node_view, nodes_view, place_view, clause_view, clauses_view, entry_view, body_view, node_step, place_step, clause_step, entry_step, body_step}
+use Rattle.ast_core.specs.NodeView.{SeenEntry, attributes_view, location_of, node_view, nodes_view, or_any, place_view, clause_view, clauses_view, entry_view, entries_view, body_view, node_step, place_step, clause_step, entry_step, body_step}
 
 node_of : (x : Node-F Node Place Clause Entry SlotBody) → node_view (roll-Node x) ≡ node_step (map-Node _ _ _ _ _ _ _ _ _ _ node_view place_view clause_view entry_view body_view x)
 node_of = fold-roll-Node model.Node model.Place (model.Pattern × model.Nodes) SeenEntry model.Body node_step place_step clause_step entry_step body_step
@@ -40,5 +40,18 @@ seen_case e cs = ap place_view (sym (place.rolls-Case e cs)) ∙ place_of (Place
 pub seen_for : (p : Pattern) (e : Expr) (ns : List Node) → place_view (place.For p e ns) ≡ model.for_place (pattern_view p) (expr_view e) (nodes_view ns)
 seen_for p e ns = ap place_view (sym (place.rolls-For p e ns)) ∙ place_of (Place-F.For p e ns)
 
+pub seen_call : (t : List ℕ) (xs : List Attribute) (b : SlotBody) (es : List Entry) → place_view (place.Call t xs b es) ≡ model.call t (attributes_view xs) (body_view b) (entries_view es)
+seen_call t xs b es = ap place_view (sym (place.rolls-Call t xs b es)) ∙ place_of (Place-F.Call t xs b es)
+
+pub seen_slot : (e : Expr) (a : Option Expr) → place_view (place.RenderSlot e a) ≡ model.render_slot (expr_view e) (or_nil (option_map expr_view a))
+seen_slot e a = ap place_view (sym (place.rolls-RenderSlot e a)) ∙ place_of (Place-F.RenderSlot e a)
+
 pub seen_clause : (c : Clause) → clause_view c ≡ (pattern_view (out-Clause c).pattern, nodes_view (out-Clause c).body)
 seen_clause c = fold_out-Clause model.Node model.Place (model.Pattern × model.Nodes) SeenEntry model.Body node_step place_step clause_step entry_step body_step c
+
+pub seen_body : (b : SlotBody) → body_view b ≡ model.slot_body (out-SlotBody b).number (or_any (out-SlotBody b).pattern) (nodes_view (out-SlotBody b).nodes)
+seen_body b = fold_out-SlotBody model.Node model.Place (model.Pattern × model.Nodes) SeenEntry model.Body node_step place_step clause_step entry_step body_step b
+
+-- the body of an entry
+pub seen_entry : (e : Entry) → (entry_view e).body ≡ body_view (out-Entry e).body
+seen_entry e = ap (λ (s : SeenEntry). s.body) (fold_out-Entry model.Node model.Place (model.Pattern × model.Nodes) SeenEntry model.Body node_step place_step clause_step entry_step body_step e)

@@ -1,26 +1,28 @@
 -- What a flattening has gathered: constant texts, and the places between them.
-use Rattle.std.specs.Prelude.{◌≡◌, ℕ, List, [], ◌∷◌, ◌++◌, length, map, sum, Option, Bool, true, false, Result, Ok, Err}
-use Rattle.ast_core.specs.ExprView.{expr_view}
+use Rattle.std.specs.Prelude.{◌≡◌, ℕ, List, [], ◌∷◌, ◌++◌, length, map, sum, Option, option_map, Bool, true, false, Result, Ok, Err}
+use Rattle.ast_core.specs.ExprView.{expr_view, or_nil}
 use Rattle.ast_core.specs.PatternView.{pattern_view}
 use Rattle.ast_core.specs.Places.{join_statics}
-use Rattle.ast_core.specs.Syntax.{Expr, Pattern, Place, put, attribute, spread}
+use Rattle.ast_core.specs.Syntax.{Expr, Pattern, Place, put, attribute, spread, render_slot}
 use Rattle.ast_core.specs.declared.walk.Reads.{Reads}
+use Rattle.slot_compile.specs.Calling.{Called, called}
 use Rattle.slot_compile.specs.declared.compiled.Branch.{Branch}
 use Rattle.slot_compile.specs.declared.compiled.Dynamic.{Dynamic}
-use Rattle.slot_compile.specs.declared.compiled.Dynamic.TheVariants.{Put, Attribute, Spread, If, Case, For}
+use Rattle.slot_compile.specs.declared.compiled.Dynamic.TheVariants.{Put, Attribute, Spread, If, Case, For, Call, RenderSlot}
 use Rattle.slot_compile.specs.declared.flattening.Body.{Body}
 use Rattle.slot_compile.specs.declared.flattening.Flattening.{Flattening}
 use Rattle.slot_compile.specs.declared.flattening.Table.{Table}
 use Rattle.slot_compile.specs.declared.flattening.CompileFault.{CompileFault}
 use Rattle.slot_compile.specs.declared.flattening.CompileFault.TheVariants.{NotYet, OutOfMemory}
 
--- a place that has its bodies by their numbers
+-- a place that has its bodies by their numbers, and a call as it is kept
 pub data Numbered : Type 0 where
   -- nothing inside
   alone : Place → Numbered
   if_numbers : Expr → ℕ → Option ℕ → Numbered
   case_numbers : Expr → List (Pattern × ℕ) → Numbered
   for_number : Pattern → Expr → Reads → ℕ → Numbered
+  call_reading : Called → Reads → Numbered
 
 abbrev pub branch_of : Branch → Pattern × ℕ
 branch_of b = (pattern_view b.pattern, b.body)
@@ -32,6 +34,8 @@ numbered (Spread e) = alone (spread (expr_view e))
 numbered (If t a b) = if_numbers (expr_view t) a b
 numbered (Case e bs) = case_numbers (expr_view e) (map branch_of bs)
 numbered (For l p r k) = for_number (pattern_view p) (expr_view l) r k
+numbered (Call f r) = call_reading (called f) r
+numbered (RenderSlot e a) = alone (render_slot (expr_view e) (or_nil (option_map expr_view a)))
 
 -- a stretch of a template: its constant text, cut at its places
 pub record Stretch : Type 0 where

@@ -10,8 +10,9 @@ use Rattle.ast_core.specs.Free.{free_place}
 use Rattle.ast_core.specs.NodeView.{attributes_view, node_view, nodes_view}
 use Rattle.ast_core.specs.Places.{cut, cut_attributes, cut_node, places_in, places_of, places_of_attributes, written_text}
 use Rattle.ast_core.specs.Reads.{assigns_in, variables_in}
-use Rattle.ast_core.specs.Syntax.{Pattern, Place, Nodes, no_nodes, node, Clauses, no_clauses, clause, attribute, bare, double_quoted, single_quoted, spread, if_place, case_place, for_place}
-use Rattle.slot_compile.specs.Gathering.{Numbered, alone, if_numbers, case_numbers, for_number, Stretch, hole, stretch, text}
+use Rattle.ast_core.specs.Syntax.{Pattern, Place, Nodes, no_nodes, node, Clauses, no_clauses, clause, attribute, bare, double_quoted, single_quoted, spread, if_place, case_place, for_place, call}
+use Rattle.slot_compile.specs.Calling.{called_with}
+use Rattle.slot_compile.specs.Gathering.{Numbered, alone, if_numbers, case_numbers, for_number, call_reading, Stretch, hole, stretch, text}
 use Rattle.slot_compile.specs.Numbering.{all_bodies, bodies_at}
 
 -- an attribute, by its name and its value
@@ -44,6 +45,7 @@ abbrev pub numbered_at : ℕ → Place → Numbered
 numbered_at k (if_place t a b) = if_numbers t k (else_at (k + length (all_bodies a)) b)
 numbered_at k (case_place e cs) = case_numbers e (clauses_at k cs)
 numbered_at k (for_place p e ns) = for_number p e (reads_at (for_place p e ns)) k
+numbered_at k (call t xs b es) = call_reading (called_with t xs b es) (reads_at (call t xs b es))
 numbered_at k p = alone p
 
 -- places in order

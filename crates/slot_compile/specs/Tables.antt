@@ -1,12 +1,11 @@
 -- What the body of the table is that is found under a number.
-use Rattle.std.specs.Prelude.{◌≡◌, map}
+use Rattle.std.specs.Prelude.{◌≡◌}
 use Rattle.ast_core.specs.Places.{cut, places_in}
 use Rattle.ast_core.specs.Syntax.{Nodes}
 use Rattle.slot_compile.specs.declared.flattening.Body.{Body}
-use Rattle.slot_compile.specs.Numbering.{AllReadRight, place_in}
+use Rattle.slot_compile.specs.Places.{ArePlaces}
 
 -- a body of a template, for these nodes
 pub record IsBodyOf (s ns : Nodes) (b : Body) : Type 0 where
   pub statics : b.statics ≡ cut ns
-  pub places : map (place_in s) b.dynamics ≡ places_in ns
-  pub reads : AllReadRight s b.dynamics
+  pub places : ArePlaces s b.dynamics (places_in ns)

@@ -1,21 +1,26 @@
 //! The way over a template, from its first node to its last, into the bodies inside it.
-ghost use Rattle.std.specs.Prelude.{◌≡◌, ◌++◌, IfOk, OnOk, length, map};
-ghost use Rattle.ast_core.specs.ExprView.{expr_view};
+ghost use Rattle.std.specs.Prelude.{◌≡◌, ◌++◌, ◌&&◌, IfOk, OnOk, length, map, option_map};
+ghost use Rattle.ast_core.specs.ExprView.{expr_view, or_nil};
 ghost use Rattle.ast_core.specs.PatternView.{pattern_view};
-ghost use Rattle.ast_core.specs.NodeView.{clause_view, clauses_view, node_view, nodes_view, place_view};
-ghost use Rattle.slot_compile.specs.Gathering.{Judges, branch_of, case_numbers, entries, for_number, gathered, if_numbers, numbered, then_on};
+ghost use Rattle.ast_core.specs.NodeView.{attributes_view, body_view, clause_view, clauses_view, entries_view, node_view, nodes_view, place_view};
+ghost use Rattle.ast_core.specs.Syntax.{render_slot};
+ghost use Rattle.slot_compile.specs.Calling.{called_with};
+ghost use Rattle.slot_compile.specs.Gathering.{Judges, alone, branch_of, call_reading, case_numbers, entries, for_number, gathered, if_numbers, numbered, then_on};
 ghost use Rattle.slot_compile.specs.Numbering.{all_bodies, bodies_at, bodies_in, bodies_of, clause_bodies, else_bodies};
 ghost use Rattle.slot_compile.specs.Stretches.{clauses_at, else_at, numbered_at, of_bodies, of_node, of_nodes};
-ghost use Rattle.slot_compile.specs.Template.{all_plain, clauses_plain, is_plain, node_plain};
+ghost use Rattle.slot_compile.specs.Template.{all_plain, body_plain, clauses_plain, entries_plain, is_plain, node_plain};
 
 use crate::flattening::{CompileFault, Flattening, Table};
+use crate::plain::{body_is_plain, entries_are_plain};
 use crate::walk::formula_of;
-use crate::{Branch, Dynamic};
+use crate::{Branch, Dynamic, Formula};
 use ast_core::{
-    Clause, Clauses, Expr, Node, Nodes, Pattern, Place, Reads, copy_pattern, place_reads,
+    Attributes, Clause, Clauses, Entries, Expr, Node, Nodes, Pattern, Place, Reads, SlotBody,
+    copy_pattern, place_reads,
 };
+use call_form::call_form;
 use std::alloc::Global;
-use text_core::{OutOfMemory, Seq};
+use text_core::{OutOfMemory, Seq, Text};
 
 impl Table {
     /// Compiles a body and those inside it: its number is that of the bodies before it.
@@ -127,6 +132,17 @@ impl Table {
                 let reads = place_reads(alloc, place)?;
                 Ok(for_of(alloc, list, pattern, reads, body)?)
             }
+            Place::Call {
+                template,
+                attributes,
+                content,
+                entries,
+            } => {
+                check_slots(content, entries)?;
+                let reads = place_reads(alloc, place)?;
+                Ok(call_of(alloc, template, attributes, content, entries, reads)?)
+            }
+            Place::RenderSlot { value, argument } => Ok(slot_of(alloc, value, argument)?),
             _ => Err(CompileFault::NotYet),
         }
     }
@@ -195,4 +211,50 @@ fn for_of(
         reads,
         body,
     })
+}
+
+// Gives up where something in the slot bodies of a call is not compiled.
+fn check_slots(content: &SlotBody, entries: &Entries) -> Result<(), CompileFault>
+    ensures { Judges result (body_plain (body_view content.now) && entries_plain (entries_view entries.now)) }
+{
+    if !body_is_plain(content) {
+        return Err(CompileFault::NotYet);
+    }
+    if !entries_are_plain(entries) {
+        return Err(CompileFault::NotYet);
+    }
+    Ok(())
+}
+
+// A call in its form. Its slot bodies are compiled apart.
+fn call_of(
+    alloc: Global,
+    template: &Text,
+    attributes: &Attributes,
+    content: &SlotBody,
+    entries: &Entries,
+    reads: Reads,
+) -> Result<Dynamic, OutOfMemory>
+    ensures { IfOk result (λ d. numbered d ≡ call_reading (called_with template.now (attributes_view attributes.now) (body_view content.now) (entries_view entries.now)) reads) }
+{
+    let form = call_form(alloc, template, attributes, content, entries)?;
+    Ok(Dynamic::Call { form, reads })
+}
+
+// A slot with its argument.
+fn slot_of(alloc: Global, slot: &Expr, argument: &Option<Expr>) -> Result<Dynamic, OutOfMemory>
+    ensures { IfOk result (λ d. numbered d ≡ alone (render_slot (expr_view slot.now) (or_nil (option_map expr_view argument.now)))) }
+{
+    let slot = formula_of(alloc, slot)?;
+    let argument = argument_of(alloc, argument)?;
+    Ok(Dynamic::RenderSlot { slot, argument })
+}
+
+fn argument_of(alloc: Global, argument: &Option<Expr>) -> Result<Option<Formula>, OutOfMemory>
+    ensures { IfOk result (λ f. option_map expr_view f ≡ option_map expr_view argument.now) }
+{
+    match argument {
+        Some(argument) => Ok(Some(formula_of(alloc, argument)?)),
+        None => Ok(None),
+    }
 }

@@ -1,8 +1,9 @@
 //! Templates, compiled.
-ghost use Rattle.std.specs.Prelude.{◌≡◌, IfOk, length, map};
+ghost use Rattle.std.specs.Prelude.{◌≡◌, [], IfOk, length};
 ghost use Rattle.ast_core.specs.Places.{places_in, cut};
 ghost use Rattle.slot_compile.specs.Gathering.{Judges, entries};
-ghost use Rattle.slot_compile.specs.Numbering.{AllReadRight, all_bodies, first_evaluated, node_at, place_count, place_in};
+ghost use Rattle.slot_compile.specs.Numbering.{all_bodies, node_at, place_count};
+ghost use Rattle.slot_compile.specs.Places.{ArePlaces};
 ghost use Rattle.slot_compile.specs.Stretches.{of_bodies};
 ghost use Rattle.slot_compile.specs.Tables.{IsBodyOf};
 ghost use Rattle.slot_compile.specs.Template.{IsPlain, all_plain, compiled_of, syntax_of};
@@ -10,6 +11,7 @@ ghost use Rattle.slot_compile.specs.Template.{IsPlain, all_plain, compiled_of, s
 use crate::Formula;
 use crate::flattening::{Body, CompileFault, Flattening, Table};
 use ast_core::{Nodes, Pattern, Reads};
+use call_form::CallForm;
 use std::alloc::Global;
 use std::marker::Model;
 use text_core::{OutOfMemory, Seq, Text};
@@ -44,6 +46,16 @@ pub enum Dynamic {
         reads: Reads,
         body: usize,
     },
+    /// A call of a template; `reads` is what its attributes, its content and its entries read from outside.
+    Call {
+        form: CallForm,
+        reads: Reads,
+    },
+    /// The bodies of a slot's entries, with an argument.
+    RenderSlot {
+        slot: Formula,
+        argument: Option<Formula>,
+    },
 }
 
 /// A clause of a case: its pattern, and the number of its body.
@@ -53,33 +65,8 @@ pub struct Branch {
     pub body: usize,
 }
 
-impl Dynamic {
-    /// The expression that is evaluated there first.
-    pub fn formula(&self) -> &Formula
-        ensures { result.now ≡ first_evaluated self.now }
-    {
-        match self {
-            Dynamic::Put(value) => value,
-            Dynamic::Attribute { name: _, value } => value,
-            Dynamic::Spread(value) => value,
-            Dynamic::If {
-                test,
-                yes: _,
-                no: _,
-            } => test,
-            Dynamic::Case { value, clauses: _ } => value,
-            Dynamic::For {
-                list,
-                pattern: _,
-                reads: _,
-                body: _,
-            } => list,
-        }
-    }
-}
-
 /// A template in numbered bodies: body 0 is the template, and the bodies inside places follow in document order, each
-/// before those inside it. Contracts see it as its source.
+/// before those inside it. Slot bodies are none of them: each is a template of its own. Contracts see it as its source.
 #[derive(Debug, Drop)]
 pub struct Compiled {
     source: Nodes,
@@ -108,6 +95,15 @@ impl Model for Compiled {
 }
 
 impl Compiled {
+    /// The template of nothing.
+    pub fn of_nothing(alloc: Global) -> Result<Compiled, OutOfMemory>
+        ensures { IfOk result (λ c. c ≡ []) }
+    {
+        let mut table = Table::new(alloc);
+        let _whole = table.reserve(alloc)?;
+        ended(alloc, Nodes::new(alloc), table)
+    }
+
     /// The template as it was read.
     pub fn source(&self) -> &Nodes
         ensures { result.now ≡ self.now }
@@ -139,8 +135,7 @@ impl Compiled {
 
     /// What stands between the constant texts of a body, in document order.
     pub fn dynamics(&self, number: usize) -> &[Dynamic]
-        ensures places { map (place_in (syntax_of self.now)) result.now ≡ places_in (node_at (syntax_of self.now) number) }
-        ensures reads { AllReadRight (syntax_of self.now) result.now }
+        ensures { ArePlaces (syntax_of self.now) result.now (places_in (node_at (syntax_of self.now) number)) }
     {
         self.body(number).dynamics.as_slice()
     }
@@ -165,7 +160,7 @@ impl Compiled {
     }
 }
 
-/// Compiles a template. None where a place is a call, a slot or a stream, wherever it stands.
+/// Compiles a template. None where a place is a live call or a stream, wherever it stands, also in slot bodies.
 pub fn compile(alloc: Global, source: Nodes) -> Result<Option<Compiled>, OutOfMemory>
     ensures { IfOk result (λ c. c ≡ compiled_of source) }
 {

@@ -31,7 +31,7 @@ pub(crate) struct Flattening {
 /// Why a template is not compiled.
 #[derive(Debug, Drop)]
 pub(crate) enum CompileFault {
-    /// A place is a call, a slot or a stream.
+    /// A place is a live call or a stream, here or in a slot body.
     NotYet,
     /// Memory was wanting.
     OutOfMemory,

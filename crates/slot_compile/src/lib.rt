@@ -5,7 +5,9 @@ mod bodies;
 mod compiled;
 mod flattening;
 mod formula;
+mod plain;
 mod walk;
 
 pub use compiled::{Branch, Compiled, Dynamic, compile};
 pub use formula::Formula;
+pub use plain::nodes_are_plain;

@@ -1,0 +1,5 @@
+pub mod Compiling
+pub mod Page
+pub mod Parts
+pub mod Places
+pub mod Site
