@@ -46,6 +46,11 @@ pub fault_raises : {A B C D : Type 0} (P : A → B → Type 0) (Q : C → D → 
 fault_raises P Q fault.Raised r s h (e, k) = h e k
 fault_raises P Q fault.OutOfMemory r s h k = tt
 
+-- as many slot bodies as scopes
+pub mapped : (scopes : List SlotScope) → length (map shown_slot scopes) ≡ length scopes
+mapped [] = refl
+mapped (s ∷ scopes) = ap suc (mapped scopes)
+
 -- ---- calls
 
 module _ (site : Site) (t : Nodes) (k : ℕ) (as' : List (KeyValue Stored)) (vs : Variables) (n : List ℕ) (xs : Attributes) (c : Body) (es : Entries) where

@@ -39,7 +39,7 @@ use Rattle.diff_render.specs.declared.print.Print.{Print}
 use Rattle.diff_render.specs.declared.print.Print.TheVariants as kept
 use Rattle.diff_render.specs.declared.print.SlotPrint.{SlotPrint}
 use Rattle.diff_render.proofs.Anew.{Lean, some_same}
-use Rattle.diff_render.proofs.Calls.{Shown, passed_met, shown_met, slots_remembered}
+use Rattle.diff_render.proofs.Calls.{Shown, mapped, passed_met, shown_met, slots_remembered}
 use Rattle.diff_render.proofs.Passing.{fault_passes}
 use Rattle.diff_render.proofs.Slots.{SlotProgress, begun_slots, ended_slots, further_slot, raised_slot, slots_met}
 use Rattle.diff_render.proofs.Wholes.{call_print, slots_more, slots_print}
@@ -203,10 +203,6 @@ module _ (site : Site) (t : Nodes) (k : ℕ) (as' : List (KeyValue Stored)) (vs 
     where
       now : slot_count g.0 ≡ length scopes
       now = slots_counted site (trace site k) (map shown_slot scopes) g.0 g.1 ∙ mapped scopes
-        where
-          mapped : (l : List SlotScope) → length (map shown_slot l) ≡ length l
-          mapped [] = refl
-          mapped (x ∷ l) = ap suc (mapped l)
 
       differ : (b : Bool) → (slot_count was.inside == slot_count g.0) ≡ b → (slot_count was.inside == slot_count g.0) ≡ false
       differ false h = h
@@ -235,7 +231,3 @@ module _ (site : Site) (t : Nodes) (k : ℕ) (as' : List (KeyValue Stored)) (vs 
     where
       now : slot_count g.0 ≡ length scopes
       now = slots_counted site (trace site k) (map shown_slot scopes) g.0 g.1 ∙ mapped scopes
-        where
-          mapped : (l : List SlotScope) → length (map shown_slot l) ≡ length l
-          mapped [] = refl
-          mapped (x ∷ l) = ap suc (mapped l)

@@ -82,9 +82,9 @@ rows_more [] r = refl
 rows_more (q ∷ rs) r = ap (row_prints (prints_view q)) (rows_more rs r)
 
 -- a node of statics and values
-pub node_made : (p : Part) (st : List (List ℕ)) (ns : Nodes) (es : List (KeyValue PlaceValue)) (vs : List PlaceValue) (ts : Trees)
-    → part_data p ≡ node_data (Some st) es → st ≡ cut ns → places_json (seen es) ≡ numbered 0 (values_seen vs) → values_seen vs ≡ trees_seen ts → part_data p ≡ tree_json (node (cut ns) ts)
-node_made p st ns es vs ts made texts members same =
+pub node_made : (p : Part) (st su : List (List ℕ)) (es : List (KeyValue PlaceValue)) (vs : List PlaceValue) (ts : Trees)
+    → part_data p ≡ node_data (Some st) es → st ≡ su → places_json (seen es) ≡ numbered 0 (values_seen vs) → values_seen vs ≡ trees_seen ts → part_data p ≡ tree_json (node su ts)
+node_made p st su es vs ts made texts members same =
     made
     ∙ ap (λ ms. object (put (codes "s") (array (texts_json st)) ms)) (members ∙ ap (numbered 0) same ∙ numbered_trees 0 ts)
     ∙ ap (λ ss. object (put (codes "s") (array (texts_json ss)) (trees_json 0 ts))) texts

@@ -10,8 +10,8 @@ use Rattle.ast_core.specs.Places.{cut, places_in}
 use Rattle.ast_core.specs.Syntax.{Nodes, Place}
 use Rattle.slot_compile.specs.Numbering.{node_at}
 use Rattle.slot_compile.specs.Template.{Source, syntax_of}
-use Rattle.bundle_compile.specs.View.{root_of, site_of_view}
-use Rattle.bundle_compile.specs.declared.view.CompiledView.{CompiledView}
+use Rattle.bundle_compile.specs.Page.{root_of, site_of_view}
+use Rattle.bundle_compile.specs.declared.page.CompiledView.{CompiledView}
 use Rattle.expr_eval.specs.declared.variables.Variables.{Variables}
 use Rattle.diff_tree.specs.Tree.{node, weave}
 use Rattle.diff_tree.specs.Spelling.{tree_json, change_json, changes_json}
