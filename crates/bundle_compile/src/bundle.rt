@@ -1,5 +1,5 @@
 //! Compiled bundles.
-ghost use Rattle.std.specs.Prelude.{◌≡◌, [], map};
+ghost use Rattle.std.specs.Prelude.{◌≡◌, [], None, map};
 ghost use Rattle.bundle_compile.specs.Parts.{slot_of, slots_plain, template_of, templates_plain};
 
 use crate::parts::{
@@ -17,8 +17,8 @@ pub struct CompiledBundle {
     templates: Seq<CompiledTemplate>,
     slots: Seq<CompiledSlot>,
     modules: Modules,
-    nothing: Compiled,
-    ghost blank: { nothing ≡ [] },
+    nothing: CompiledSlot,
+    ghost blank: { (nothing.nodes ≡ []) × (nothing.pattern ≡ None) },
     ghost plain: { (templates_plain (map template_of templates) ≡ true) × (slots_plain (map slot_of slots) ≡ true) },
 }
 
@@ -42,7 +42,10 @@ impl CompiledBundle {
         ensures slots { IfOk result (λ b. b.slots ≡ slots) }
         ensures modules { IfOk result (λ b. b.modules ≡ modules) }
     {
-        let nothing = Compiled::of_nothing(alloc)?;
+        let nothing = CompiledSlot {
+            pattern: None,
+            nodes: Compiled::of_nothing(alloc)?,
+        };
         Ok(CompiledBundle {
             templates,
             slots,
@@ -57,15 +60,18 @@ impl CompiledBundle {
     {
         match find_template(self.templates.as_slice(), name) {
             Some(nodes) => nodes,
-            None => &self.nothing,
+            None => &self.nothing.nodes,
         }
     }
 
-    /// The slot body of a number.
-    pub fn slot(&self, number: u64) -> Option<&CompiledSlot>
-        ensures { MatchOption result ((site_in self.now).has_body number ≡ false) (λ slot. ((site_in self.now).has_body number ≡ true) × (slot_of slot.now ≡ (site_in self.now).body number)) }
+    /// The slot body of a number; one of nothing, that takes anything, where there is none.
+    pub fn slot(&self, number: u64) -> &CompiledSlot
+        ensures { slot_of result.now ≡ (site_in self.now).body number }
     {
-        self.slots.as_slice().get(number as usize)
+        match self.slots.as_slice().get(number as usize) {
+            Some(slot) => slot,
+            None => &self.nothing,
+        }
     }
 
     /// How many slot bodies it has. Their numbers are those below.

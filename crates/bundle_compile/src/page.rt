@@ -1,6 +1,7 @@
 //! The page of a view.
 ghost use Rattle.std.specs.Prelude.{◌≡◌};
-ghost use Rattle.bundle_compile.specs.Page.{root_of};
+ghost use Rattle.bundle_compile.specs.Page.{root_of, site_of_view};
+ghost use Rattle.bundle_compile.specs.Site.{IsPlainSite};
 ghost use Rattle.slot_compile.specs.Template.{syntax_of};
 
 use crate::CompiledBundle;
@@ -20,5 +21,12 @@ impl CompiledView {
         ensures { syntax_of result.now ≡ root_of self.now }
     {
         self.bundle.template(self.template.as_str())
+    }
+
+    /// A law of each page: no place in its bundle is a live call or a stream. It does nothing.
+    pub fn is_plain(&self)
+        ensures { IsPlainSite (site_of_view self.now) }
+    {
+        self.bundle.bodies_are_plain();
     }
 }
