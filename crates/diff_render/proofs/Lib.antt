@@ -25,4 +25,5 @@ pub mod Sent
 pub mod Slots
 pub mod SlotsAgain
 pub mod Takes
+pub mod TextsShown
 pub mod Wholes
