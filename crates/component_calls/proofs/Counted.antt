@@ -7,13 +7,14 @@ use Rattle.ast_core.specs.declared.node.Clause.{Clause}
 use Rattle.ast_core.specs.declared.node.Entry.{Entry}
 use Rattle.ast_core.specs.declared.node.SlotBody.{SlotBody}
 use Rattle.ast_core.specs.declared.linked.Template.{Template}
+use Rattle.ast_core.specs.Blank.{is_blank}
+use Rattle.ast_core.specs.LinkedView.{template_view}
 use Rattle.ast_core.specs.NodeView.{SeenEntry, nodes_of, clauses_of, entries_of, node_view, nodes_view, clause_view, clauses_view, entry_view, entries_view, body_view}
 use Rattle.ast_core.specs.Syntax as model
 use Rattle.ast_core.specs.Syntax.{text_node, element, at_place, Place, put, attribute, spread, if_place, case_place, for_place, call, render_slot, live_call, stream_place, Nodes, no_nodes, node, Clauses, no_clauses, clause, Body, slot_body, Entries, no_entries, entry}
-use Rattle.component_calls.specs.Linking.{number_template, number_templates, template_view}
+use Rattle.component_calls.specs.Linking.{number_template, number_templates}
 use Rattle.component_calls.specs.Numbers.{bodies_at, bodies_in, bodies_of, body_bodies, clause_bodies, content_bodies, entry_bodies, inner_bodies, number_clauses, number_entries, number_node, number_nodes, numbered_at, numbered_body, numbered_clauses, numbered_content, numbered_entries, numbered_in, numbered_inner, numbered_of}
 use Rattle.component_calls.specs.Steps.{number_entry}
-use Rattle.component_calls.specs.Tags.{is_blank}
 use Rattle.component_calls.proofs.Lists.{run, total}
 
 -- nodes, clauses, entries and templates, one by one
@@ -125,28 +126,28 @@ mutual
 abbrev pub gathered : List SlotBody → List Body
 gathered bs = map body_view bs
 
-next_number : (a b : List SlotBody) (xs : List Body) (n : ℕ) → gathered b ≡ gathered a ++ xs → length xs ≡ n → length b + 1 ≡ length a + 1 + n
+next_number : (a b : List SlotBody) (xs : List Body) (n : ℕ) → gathered b ≡ gathered a ++ xs → length xs ≡ n → length b ≡ length a + n
 next_number a b xs n step long =
     let grown : length b ≡ length a + length xs = sym (length-map b body_view) ∙ ap length step ∙ length-append (gathered a) xs ∙ ap (λ m. m + length xs) (length-map a body_view) in
     omega (arith, grown, long)
 
 -- two stretches of bodies, one behind the other
-pub both_gathered : (a b c : List SlotBody) (xs : List Body) (n : ℕ) (ys : ℕ → List Body) → gathered b ≡ gathered a ++ xs → length xs ≡ n → gathered c ≡ gathered b ++ ys (length b + 1)
-    → gathered c ≡ gathered a ++ (xs ++ ys (length a + 1 + n))
+pub both_gathered : (a b c : List SlotBody) (xs : List Body) (n : ℕ) (ys : ℕ → List Body) → gathered b ≡ gathered a ++ xs → length xs ≡ n → gathered c ≡ gathered b ++ ys (length b)
+    → gathered c ≡ gathered a ++ (xs ++ ys (length a + n))
 both_gathered a b c xs n ys first long second =
-    second ∙ ap (λ m. gathered b ++ ys m) (next_number a b xs n first long) ∙ ap (λ l. l ++ ys (length a + 1 + n)) first ∙ append_assoc (gathered a) xs (ys (length a + 1 + n))
+    second ∙ ap (λ m. gathered b ++ ys m) (next_number a b xs n first long) ∙ ap (λ l. l ++ ys (length a + n)) first ∙ append_assoc (gathered a) xs (ys (length a + n))
 
 pub next_gathered : {X : Type 0} (one : ℕ → X → List Body) (size : X → ℕ) (all : ℕ → List X → List Body) → ((k : ℕ) (x : X) (xs : List X) → all k (x ∷ xs) ≡ one k x ++ all (k + size x) xs)
     → ((k : ℕ) (x : X) → length (one k x) ≡ size x) → (s : List X) (i : ℕ) (x : X) (a b : List SlotBody) (z : List Body) → i < length s → x ≡ get_or s i x
-    → gathered b ≡ gathered a ++ one (length a + 1) x → gathered a ++ all (length a + 1) (drop i s) ≡ z → gathered b ++ all (length b + 1) (drop (i + 1) s) ≡ z
+    → gathered b ≡ gathered a ++ one (length a) x → gathered a ++ all (length a) (drop i s) ≡ z → gathered b ++ all (length b) (drop (i + 1) s) ≡ z
 next_gathered one size all by_cons long s i x a b z within is step inv =
-    ap (λ m. gathered b ++ all m (drop (i + 1) s)) (next_number a b (one (length a + 1) x) (size x) step (long (length a + 1) x))
-    ∙ ap (λ l. l ++ all (length a + 1 + size x) (drop (i + 1) s)) step
-    ∙ append_assoc (gathered a) (one (length a + 1) x) (all (length a + 1 + size x) (drop (i + 1) s))
-    ∙ ap (λ l. gathered a ++ l) (sym (by_cons (length a + 1) x (drop (i + 1) s)) ∙ ap (all (length a + 1)) (sym (cons_at s i x within is)))
+    ap (λ m. gathered b ++ all m (drop (i + 1) s)) (next_number a b (one (length a) x) (size x) step (long (length a) x))
+    ∙ ap (λ l. l ++ all (length a + size x) (drop (i + 1) s)) step
+    ∙ append_assoc (gathered a) (one (length a) x) (all (length a + size x) (drop (i + 1) s))
+    ∙ ap (λ l. gathered a ++ l) (sym (by_cons (length a) x (drop (i + 1) s)) ∙ ap (all (length a)) (sym (cons_at s i x within is)))
     ∙ inv
 
 pub end_gathered : {X : Type 0} (all : ℕ → List X → List Body) → ((k : ℕ) → all k [] ≡ []) → (s : List X) (i : ℕ) (a : List SlotBody) (z : List Body) → length s ≤ i
-    → gathered a ++ all (length a + 1) (drop i s) ≡ z → gathered a ≡ z
+    → gathered a ++ all (length a) (drop i s) ≡ z → gathered a ≡ z
 end_gathered all none s i a z h inv =
-    sym (append-nil (gathered a)) ∙ ap (λ l. gathered a ++ l) (sym (none (length a + 1)) ∙ ap (all (length a + 1)) (sym (drop_all i s h))) ∙ inv
+    sym (append-nil (gathered a)) ∙ ap (λ l. gathered a ++ l) (sym (none (length a)) ∙ ap (all (length a)) (sym (drop_all i s h))) ∙ inv

@@ -1,6 +1,7 @@
 -- The first thing that linking refuses in nodes.
 use Rattle.std.specs.Prelude.{◌≡◌, ℕ, List, [], ◌∷◌, map, Bool, true, false, codes, ◌&&◌, not, Option, Some, None, Result, Ok, Err}
 use Rattle.std.specs.Str.{bytes_eq}
+use Rattle.ast_core.specs.Blank.{is_blank}
 use Rattle.ast_core.specs.Free.{one_of}
 use Rattle.ast_core.specs.NodeView.{location_of}
 use Rattle.ast_core.specs.Syntax as model
@@ -10,7 +11,7 @@ use Rattle.component_calls.specs.declared.fault.LinkKind.TheVariants.{UnknownCom
 use Rattle.component_calls.specs.declared.fault.NodeFault.{NodeFault}
 use Rattle.component_calls.specs.declared.fault.NodeFault.TheVariants as fault
 use Rattle.component_calls.specs.declared.known.Known.{Known}
-use Rattle.component_calls.specs.Tags.{names_of, modules_of, first_repeat, slots_of, first_among, first_unknown, is_slot, is_blank, has_no_entries, has_names, module_name}
+use Rattle.component_calls.specs.Tags.{names_of, modules_of, first_repeat, slots_of, first_among, first_unknown, is_slot, has_no_entries, has_names, module_name}
 
 -- something that is refused, with its place
 pub record Found : Type 0 where

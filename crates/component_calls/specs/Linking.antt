@@ -4,6 +4,7 @@ use Rattle.ast_core.specs.declared.linked.Template.{Template}
 use Rattle.ast_core.specs.declared.linked.Module.{Module}
 use Rattle.ast_core.specs.declared.linked.Linked.{Linked}
 use Rattle.ast_core.specs.Free.{one_of}
+use Rattle.ast_core.specs.LinkedView.{module_view, template_view}
 use Rattle.ast_core.specs.NodeView.{location_of, nodes_view, body_view}
 use Rattle.ast_core.specs.Syntax as model
 use Rattle.ast_core.specs.Syntax.{Location, Body}
@@ -80,13 +81,6 @@ cycle_refusal k ts cycle =
 abbrev pub RefusesCycle : Known → List Template → Refusal → Type 0
 RefusesCycle k ts r = (cycle : List ℕ) × IsLeastCycle (graph_of k ts) cycle × (r ≡ cycle_refusal k ts cycle)
 
--- a template, and a module, as the definitions have them
-abbrev pub template_view : Template → model.Template
-template_view t = record { name = t.name; nodes = nodes_view t.nodes }
-
-abbrev pub module_view : Module → model.Module
-module_view m = record { name = m.module; template = m.template }
-
 -- templates with their slot bodies numbered from k on, and these bodies
 abbrev pub number_template : ℕ → model.Template → model.Template
 number_template k t = record { name = t.name; nodes = number_nodes k t.nodes }
@@ -102,13 +96,10 @@ numbered_templates k (t ∷ ts) = numbered_in k t.nodes ++ numbered_templates (k
 -- the linked bundle of templates and modules
 abbrev pub linked_of : List Template → List Module → model.Linked
 linked_of ts ms = record {
-  templates = number_templates 1 (map template_view ts);
-  bodies = numbered_templates 1 (map template_view ts);
+  templates = number_templates 0 (map template_view ts);
+  bodies = numbered_templates 0 (map template_view ts);
   modules = map module_view ms;
 }
-
-abbrev pub linked_view : Linked → model.Linked
-linked_view l = record { templates = map template_view l.templates; bodies = map body_view l.bodies; modules = map module_view l.modules.components }
 
 -- a refusal with its place as the program has it
 abbrev pub refused_at : List ℕ → Location → LinkKind → Refusal
@@ -153,5 +144,5 @@ all_bodies (t ∷ ts) = bodies_in t.nodes ++ all_bodies ts
 pub record IsLinkedBundle (l : Linked) : Type 0 where
   pub lawful : IsLawful (known_in l.templates l.modules.components) l.templates
   pub ascending : IsTrue (ascend (map template_name l.templates))
-  pub numbered : number_templates 1 (map template_view l.templates) ≡ map template_view l.templates
+  pub numbered : number_templates 0 (map template_view l.templates) ≡ map template_view l.templates
   pub gathered : map body_view l.bodies ≡ all_bodies (map template_view l.templates)

@@ -1,8 +1,8 @@
 -- Slot bodies by their numbers.
 use Rattle.std.specs.Prelude.{ℕ, ◌+◌, List, [], ◌∷◌, ◌++◌, length, if◌then◌else◌}
+use Rattle.ast_core.specs.Blank.{is_blank}
 use Rattle.ast_core.specs.Syntax as model
 use Rattle.ast_core.specs.Syntax.{text_node, element, at_place, Place, put, attribute, spread, if_place, case_place, for_place, call, render_slot, live_call, stream_place, Nodes, no_nodes, node, Clauses, no_clauses, clause, Body, slot_body, Entries, no_entries, entry}
-use Rattle.component_calls.specs.Tags.{is_blank}
 
 -- the slot bodies in nodes, in order: a body before those inside it, a call's content before its entries; content of white space
 -- alone and the content of a live call are none

@@ -1,9 +1,7 @@
 -- The definitions in the steps of the code.
 use Rattle.std.specs.Prelude.{ℕ, List, [], ◌∷◌, Option, codes}
 use Rattle.std.specs.Str.{bytes_eq}
-use Rattle.ast_core.specs.declared.node.Attribute.{Attribute}
-use Rattle.ast_core.specs.NodeView.{SeenEntry, attribute_on}
-use Rattle.ast_core.specs.Syntax.{Attributes, Body, slot_body}
+use Rattle.ast_core.specs.NodeView.{SeenEntry}
 use Rattle.component_calls.specs.Numbers.{number_body}
 use Rattle.component_calls.specs.declared.known.Known.{Known}
 use Rattle.component_calls.specs.Faults.{Found, body_fault, misused, or_next}
@@ -31,13 +29,6 @@ module_of_value (form.Module m) = m ∷ []
 -- what is refused in one entry
 abbrev pub fault_in_entry : Known → SeenEntry → Option Found
 fault_in_entry k e = or_next (misused e.location (bytes_eq e.slot (codes "inner_block"))) (body_fault k e.body)
-
--- an attribute and its value before others
-abbrev pub seen_value : AttributeValue → List ℕ → Attributes → Attributes
-seen_value v n xs = attribute_on n v xs
-
-abbrev pub seen_attribute : Attribute → Attributes → Attributes
-seen_attribute a xs = attribute_on a.name a.value xs
 
 -- an entry with its body numbered
 abbrev pub number_entry : ℕ → SeenEntry → SeenEntry

@@ -1,10 +1,9 @@
 -- What a tag says by its name, its attributes and its content.
-use Rattle.std.specs.Prelude.{ℕ, List, [], ◌∷◌, ◌++◌, Bool, true, false, codes, ◌==◌, ◌||◌, ◌&&◌, if◌then◌else◌, Option, Some, None}
+use Rattle.std.specs.Prelude.{ℕ, List, [], ◌∷◌, ◌++◌, Bool, true, false, codes, ◌==◌, if◌then◌else◌, Option, Some, None}
 use Rattle.std.specs.Str.{bytes_eq}
 use Rattle.ast_core.specs.declared.linked.Module.{Module}
 use Rattle.ast_core.specs.Free.{one_of}
-use Rattle.ast_core.specs.Syntax as model
-use Rattle.ast_core.specs.Syntax.{Attributes, no_attributes, written, valued, spread_of, module_of, text_node, element, at_place, Nodes, no_nodes, node, Body, slot_body, Entries, no_entries, entry}
+use Rattle.ast_core.specs.Syntax.{Attributes, no_attributes, written, valued, spread_of, module_of, Entries, no_entries, entry}
 
 -- the names of attributes; a spread has none
 abbrev pub names_of : Attributes → List (List ℕ)
@@ -46,24 +45,7 @@ abbrev pub is_slot : List ℕ → Bool
 is_slot [] = false
 is_slot (c ∷ cs) = c == 58
 
--- white space
-abbrev pub is_space : ℕ → Bool
-is_space c = c == 32 || (c == 9 || (c == 10 || c == 13))
-
-abbrev pub all_space : List ℕ → Bool
-all_space [] = true
-all_space (c ∷ cs) = is_space c && all_space cs
-
--- nodes of white space alone
-abbrev pub node_blank : model.Node → Bool
-node_blank (text_node t) = all_space t
-node_blank (element l t xs ns) = false
-node_blank (at_place l p) = false
-
-abbrev pub is_blank : Nodes → Bool
-is_blank no_nodes = true
-is_blank (node n ns) = node_blank n && is_blank ns
-
+-- whether there are none of these
 abbrev pub has_no_entries : Entries → Bool
 has_no_entries no_entries = true
 has_no_entries (entry l s xs g t b es) = false

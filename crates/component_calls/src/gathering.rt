@@ -1,22 +1,21 @@
 //! The slot bodies of nodes, each with its number.
-ghost use Rattle.std.specs.Prelude.{◌≡◌, ◌+◌, ◌++◌, length, map, OnOk};
+ghost use Rattle.std.specs.Prelude.{◌≡◌, ◌++◌, length, map, OnOk};
 ghost use Rattle.ast_core.specs.NodeView.{body_view, clause_view, clauses_view, entries_view, entry_view, node_view, nodes_view, place_view};
 ghost use Rattle.component_calls.specs.Numbers.{numbered_at, numbered_body, numbered_clauses, numbered_content, numbered_entries, numbered_in, numbered_inner, numbered_of};
 
 use crate::numbering::number_body;
-use crate::tags::is_blank;
-use ast_core::{Bodies, Clause, Clauses, Entries, Entry, Node, Nodes, Place, SlotBody};
+use ast_core::{Bodies, Clause, Clauses, Entries, Entry, Node, Nodes, Place, SlotBody, is_blank};
 use std::alloc::Global;
 use text_core::OutOfMemory;
 
-/// Adds the slot bodies in nodes; the number of each is its place in the list, counted from 1.
+/// Adds the slot bodies in nodes; the number of each is its place in the list, counted from 0.
 #[cycle(node)]
 pub(crate) fn gather_nodes(
     alloc: Global,
     nodes: &Nodes,
     bodies: &mut Bodies,
 ) -> Result<(), OutOfMemory>
-    ensures { OnOk result (map body_view bodies.new ≡ map body_view bodies.old ++ numbered_in (length bodies.old + 1) (nodes_view nodes.now)) }
+    ensures { OnOk result (map body_view bodies.new ≡ map body_view bodies.old ++ numbered_in (length bodies.old) (nodes_view nodes.now)) }
 {
     'nodes: for node in nodes.as_slice() {
         gather_node(alloc, node, bodies)?;
@@ -26,7 +25,7 @@ pub(crate) fn gather_nodes(
 
 #[cycle(node)]
 fn gather_node(alloc: Global, node: &Node, bodies: &mut Bodies) -> Result<(), OutOfMemory>
-    ensures { OnOk result (map body_view bodies.new ≡ map body_view bodies.old ++ numbered_of (length bodies.old + 1) (node_view node.now)) }
+    ensures { OnOk result (map body_view bodies.new ≡ map body_view bodies.old ++ numbered_of (length bodies.old) (node_view node.now)) }
 {
     match node {
         Node::Text(_) => Ok(()),
@@ -42,7 +41,7 @@ fn gather_node(alloc: Global, node: &Node, bodies: &mut Bodies) -> Result<(), Ou
 
 #[cycle(node)]
 fn gather_place(alloc: Global, place: &Place, bodies: &mut Bodies) -> Result<(), OutOfMemory>
-    ensures { OnOk result (map body_view bodies.new ≡ map body_view bodies.old ++ numbered_at (length bodies.old + 1) (place_view place.now)) }
+    ensures { OnOk result (map body_view bodies.new ≡ map body_view bodies.old ++ numbered_at (length bodies.old) (place_view place.now)) }
 {
     match place {
         Place::Put(_) => Ok(()),
@@ -88,7 +87,7 @@ fn gather_place(alloc: Global, place: &Place, bodies: &mut Bodies) -> Result<(),
 
 #[cycle(node)]
 fn gather_clauses(alloc: Global, clauses: &Clauses, bodies: &mut Bodies) -> Result<(), OutOfMemory>
-    ensures { OnOk result (map body_view bodies.new ≡ map body_view bodies.old ++ numbered_clauses (length bodies.old + 1) (clauses_view clauses.now)) }
+    ensures { OnOk result (map body_view bodies.new ≡ map body_view bodies.old ++ numbered_clauses (length bodies.old) (clauses_view clauses.now)) }
 {
     'clauses: for clause in clauses.as_slice() {
         gather_clause(alloc, clause, bodies)?;
@@ -98,7 +97,7 @@ fn gather_clauses(alloc: Global, clauses: &Clauses, bodies: &mut Bodies) -> Resu
 
 #[cycle(node)]
 fn gather_clause(alloc: Global, clause: &Clause, bodies: &mut Bodies) -> Result<(), OutOfMemory>
-    ensures { OnOk result (map body_view bodies.new ≡ map body_view bodies.old ++ numbered_in (length bodies.old + 1) (clause_view clause.now).1) }
+    ensures { OnOk result (map body_view bodies.new ≡ map body_view bodies.old ++ numbered_in (length bodies.old) (clause_view clause.now).1) }
 {
     gather_nodes(alloc, &clause.body, bodies)
 }
@@ -106,7 +105,7 @@ fn gather_clause(alloc: Global, clause: &Clause, bodies: &mut Bodies) -> Result<
 // The content of a call; white space alone is none.
 #[cycle(node)]
 fn gather_content(alloc: Global, body: &SlotBody, bodies: &mut Bodies) -> Result<(), OutOfMemory>
-    ensures { OnOk result (map body_view bodies.new ≡ map body_view bodies.old ++ numbered_content (length bodies.old + 1) (body_view body.now)) }
+    ensures { OnOk result (map body_view bodies.new ≡ map body_view bodies.old ++ numbered_content (length bodies.old) (body_view body.now)) }
 {
     if is_blank(&body.nodes) {
         gather_inner(alloc, body, bodies)
@@ -117,23 +116,23 @@ fn gather_content(alloc: Global, body: &SlotBody, bodies: &mut Bodies) -> Result
 
 #[cycle(node)]
 fn gather_inner(alloc: Global, body: &SlotBody, bodies: &mut Bodies) -> Result<(), OutOfMemory>
-    ensures { OnOk result (map body_view bodies.new ≡ map body_view bodies.old ++ numbered_inner (length bodies.old + 1) (body_view body.now)) }
+    ensures { OnOk result (map body_view bodies.new ≡ map body_view bodies.old ++ numbered_inner (length bodies.old) (body_view body.now)) }
 {
     gather_nodes(alloc, &body.nodes, bodies)
 }
 
 #[cycle(node)]
 fn gather_body(alloc: Global, body: &SlotBody, bodies: &mut Bodies) -> Result<(), OutOfMemory>
-    ensures { OnOk result (map body_view bodies.new ≡ map body_view bodies.old ++ numbered_body (length bodies.old + 1) (body_view body.now)) }
+    ensures { OnOk result (map body_view bodies.new ≡ map body_view bodies.old ++ numbered_body (length bodies.old) (body_view body.now)) }
 {
-    let mut next = bodies.len() as u64 + 1;
+    let mut next = bodies.len() as u64;
     bodies.push(number_body(alloc, body, &mut next)?)?;
     gather_nodes(alloc, &body.nodes, bodies)
 }
 
 #[cycle(node)]
 fn gather_entries(alloc: Global, entries: &Entries, bodies: &mut Bodies) -> Result<(), OutOfMemory>
-    ensures { OnOk result (map body_view bodies.new ≡ map body_view bodies.old ++ numbered_entries (length bodies.old + 1) (entries_view entries.now)) }
+    ensures { OnOk result (map body_view bodies.new ≡ map body_view bodies.old ++ numbered_entries (length bodies.old) (entries_view entries.now)) }
 {
     'entries: for entry in entries.as_slice() {
         gather_entry(alloc, entry, bodies)?;
@@ -143,7 +142,7 @@ fn gather_entries(alloc: Global, entries: &Entries, bodies: &mut Bodies) -> Resu
 
 #[cycle(node)]
 fn gather_entry(alloc: Global, entry: &Entry, bodies: &mut Bodies) -> Result<(), OutOfMemory>
-    ensures { OnOk result (map body_view bodies.new ≡ map body_view bodies.old ++ numbered_body (length bodies.old + 1) (entry_view entry.now).body) }
+    ensures { OnOk result (map body_view bodies.new ≡ map body_view bodies.old ++ numbered_body (length bodies.old) (entry_view entry.now).body) }
 {
     gather_body(alloc, &entry.body, bodies)
 }

@@ -8,9 +8,9 @@ ghost use Rattle.component_calls.specs.Tags.{first_unknown};
 
 use crate::fault::{LinkKind, NodeFault};
 use crate::known::{Known, is_one_of};
-use crate::tags::{attribute_names, check_doubled, check_use, is_blank, is_slot, module_names};
+use crate::tags::{attribute_names, check_doubled, check_use, is_slot, module_names};
 use ast_core::{
-    Attributes, Clause, Clauses, Entries, Entry, Location, Node, Nodes, Place, SlotBody,
+    Attributes, Clause, Clauses, Entries, Entry, Location, Node, Nodes, Place, SlotBody, is_blank,
 };
 use std::alloc::Global;
 use text_core::{Names, OutOfMemory, Text};

@@ -3,7 +3,6 @@
 #![tactic(auto)]
 
 mod calls;
-mod copying;
 mod fault;
 mod gathering;
 mod graph;

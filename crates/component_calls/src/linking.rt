@@ -1,9 +1,10 @@
 //! Templates and modules, linked.
 ghost use Rattle.std.specs.Prelude.{◌≡◌, ◌+◌, [], IfErr, IfOk, IsTrue, OnOk, get_or, length, map};
 ghost use Rattle.text_core.specs.Keyed.{ascend};
+ghost use Rattle.ast_core.specs.LinkedView.{linked_view, template_view};
 ghost use Rattle.ast_core.specs.NodeView.{body_view, nodes_view};
 ghost use Rattle.component_calls.specs.Calls.{call_view, callees, graph_of};
-ghost use Rattle.component_calls.specs.Linking.{IsLawful, IsLinkedBundle, JudgedCycles, JudgedIn, RefusedRightly, Refuses, calls_from, cycle_refusal, known_in, linked_of, linked_view, module_fault, name_at, number_template, number_templates, numbered_templates, refusal_in, template_calls, template_fault, template_name, template_view};
+ghost use Rattle.component_calls.specs.Linking.{IsLawful, IsLinkedBundle, JudgedCycles, JudgedIn, RefusedRightly, Refuses, calls_from, cycle_refusal, known_in, linked_of, module_fault, name_at, number_template, number_templates, numbered_templates, refusal_in, template_calls, template_fault, template_name};
 ghost use Rattle.component_calls.specs.Numbers.{bodies_in};
 
 use crate::calls::{Calls, callees, place_to};
@@ -193,9 +194,9 @@ fn number_template(
 }
 
 fn number_templates(alloc: Global, templates: &Templates) -> Result<Templates, OutOfMemory>
-    ensures { IfOk result (λ ts. map template_view ts ≡ number_templates 1 (map template_view templates.now)) }
+    ensures { IfOk result (λ ts. map template_view ts ≡ number_templates 0 (map template_view templates.now)) }
 {
-    let mut next = 1;
+    let mut next = 0;
     let mut copies = Seq::new(alloc);
     'templates: for template in templates.as_slice() {
         copies.push(number_template(alloc, template, &mut next)?)?;
@@ -204,7 +205,7 @@ fn number_templates(alloc: Global, templates: &Templates) -> Result<Templates, O
 }
 
 fn gather_templates(alloc: Global, templates: &Templates) -> Result<Bodies, OutOfMemory>
-    ensures { IfOk result (λ bs. map body_view bs ≡ numbered_templates 1 (map template_view templates.now)) }
+    ensures { IfOk result (λ bs. map body_view bs ≡ numbered_templates 0 (map template_view templates.now)) }
 {
     let mut bodies = Seq::new(alloc);
     'templates: for template in templates.as_slice() {

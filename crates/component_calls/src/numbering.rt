@@ -1,84 +1,15 @@
 //! Copies of nodes in which each slot body has its number.
-ghost use Rattle.std.specs.Prelude.{◌≡◌, ◌+◌, length, map, IfOk, OnOk, option_map};
-ghost use Rattle.ast_core.specs.ExprView.{expr_view};
-ghost use Rattle.ast_core.specs.NodeView.{attributes_view, body_view, clause_view, clauses_view, entries_view, entry_view, generator_view, node_view, nodes_view, or_any, place_view};
+ghost use Rattle.std.specs.Prelude.{◌≡◌, ◌+◌, length, IfOk, OnOk};
+ghost use Rattle.ast_core.specs.NodeView.{body_view, clause_view, clauses_view, entries_view, entry_view, node_view, nodes_view, place_view};
 ghost use Rattle.component_calls.specs.Numbers.{bodies_at, bodies_in, bodies_of, body_bodies, clause_bodies, content_bodies, entry_bodies, inner_bodies, number_body, number_clauses, number_content, number_entries, number_inner, number_node, number_nodes, number_place};
-ghost use Rattle.component_calls.specs.Steps.{number_entry, seen_attribute, seen_value};
+ghost use Rattle.component_calls.specs.Steps.{number_entry};
 
-use crate::copying::{copy_expr, copy_pattern};
-use crate::tags::is_blank;
 use ast_core::{
-    Attribute, AttributeValue, Attributes, Clause, Clauses, Entries, Entry, Expr, Generator, Node,
-    Nodes, Pattern, Place, SlotBody,
+    Clause, Clauses, Entries, Entry, Node, Nodes, Place, SlotBody, copy_attributes, copy_expr,
+    copy_generator, copy_let, copy_pattern, copy_test, is_blank,
 };
 use std::alloc::Global;
 use text_core::{OutOfMemory, Seq};
-
-fn copy_value(alloc: Global, value: &AttributeValue) -> Result<AttributeValue, OutOfMemory>
-    ensures { IfOk result (λ v. seen_value v ≡ seen_value value.now) }
-{
-    match value {
-        AttributeValue::Double(text) => Ok(AttributeValue::Double(text.copy(alloc)?)),
-        AttributeValue::Single(text) => Ok(AttributeValue::Single(text.copy(alloc)?)),
-        AttributeValue::Bare => Ok(AttributeValue::Bare),
-        AttributeValue::Put(expr) => Ok(AttributeValue::Put(copy_expr(alloc, expr)?)),
-        AttributeValue::Spread(expr) => Ok(AttributeValue::Spread(copy_expr(alloc, expr)?)),
-        AttributeValue::Module(name) => Ok(AttributeValue::Module(name.copy(alloc)?)),
-    }
-}
-
-fn copy_attribute(alloc: Global, attribute: &Attribute) -> Result<Attribute, OutOfMemory>
-    ensures { IfOk result (λ a. seen_attribute a ≡ seen_attribute attribute.now) }
-{
-    Ok(Attribute {
-        at: attribute.at,
-        name: attribute.name.copy(alloc)?,
-        value: copy_value(alloc, &attribute.value)?,
-    })
-}
-
-fn copy_attributes(alloc: Global, attributes: &Attributes) -> Result<Attributes, OutOfMemory>
-    ensures { IfOk result (λ xs. attributes_view xs ≡ attributes_view attributes.now) }
-{
-    let mut copies = Seq::new(alloc);
-    'attributes: for attribute in attributes.as_slice() {
-        copies.push(copy_attribute(alloc, attribute)?)?;
-    }
-    Ok(copies)
-}
-
-fn copy_option(alloc: Global, expr: &Option<Expr>) -> Result<Option<Expr>, OutOfMemory>
-    ensures { IfOk result (λ o. option_map expr_view o ≡ option_map expr_view expr.now) }
-{
-    match expr {
-        Some(expr) => Ok(Some(copy_expr(alloc, expr)?)),
-        None => Ok(None),
-    }
-}
-
-fn copy_binding(alloc: Global, pattern: &Option<Pattern>) -> Result<Option<Pattern>, OutOfMemory>
-    ensures { IfOk result (λ o. or_any o ≡ or_any pattern.now) }
-{
-    match pattern {
-        Some(pattern) => Ok(Some(copy_pattern(alloc, pattern)?)),
-        None => Ok(None),
-    }
-}
-
-fn copy_generator(
-    alloc: Global,
-    generator: &Option<Generator>,
-) -> Result<Option<Generator>, OutOfMemory>
-    ensures { IfOk result (λ o. option_map generator_view o ≡ option_map generator_view generator.now) }
-{
-    match generator {
-        Some(generator) => Ok(Some(Generator {
-            pattern: copy_pattern(alloc, &generator.pattern)?,
-            list: copy_expr(alloc, &generator.list)?,
-        })),
-        None => Ok(None),
-    }
-}
 
 // The next number, which is taken.
 fn take_number(next: &mut u64) -> Result<u64, OutOfMemory>
@@ -184,7 +115,7 @@ fn number_place(alloc: Global, place: &Place, next: &mut u64) -> Result<Place, O
         }),
         Place::RenderSlot { value, argument } => Ok(Place::RenderSlot {
             value: copy_expr(alloc, value)?,
-            argument: copy_option(alloc, argument)?,
+            argument: copy_test(alloc, argument)?,
         }),
         Place::StreamFor {
             stream,
@@ -244,7 +175,7 @@ fn number_inner(alloc: Global, body: &SlotBody, next: &mut u64) -> Result<SlotBo
 {
     Ok(SlotBody {
         number: 0,
-        pattern: copy_binding(alloc, &body.pattern)?,
+        pattern: copy_let(alloc, &body.pattern)?,
         nodes: number_nodes(alloc, &body.nodes, next)?,
     })
 }
@@ -261,7 +192,7 @@ pub(crate) fn number_body(
 {
     Ok(SlotBody {
         number: take_number(next)?,
-        pattern: copy_binding(alloc, &body.pattern)?,
+        pattern: copy_let(alloc, &body.pattern)?,
         nodes: number_nodes(alloc, &body.nodes, next)?,
     })
 }
@@ -287,7 +218,7 @@ fn number_entry(alloc: Global, entry: &Entry, next: &mut u64) -> Result<Entry, O
         at: entry.at,
         slot: entry.slot.copy(alloc)?,
         generator: copy_generator(alloc, &entry.generator)?,
-        test: copy_option(alloc, &entry.test)?,
+        test: copy_test(alloc, &entry.test)?,
         attributes: copy_attributes(alloc, &entry.attributes)?,
         body: number_body(alloc, &entry.body, next)?,
     })

@@ -1,13 +1,13 @@
 //! What a tag says by its attributes and its content.
 ghost use Rattle.std.specs.Prelude.{◌≡◌, [], ◌++◌, IfOk, OnOk};
-ghost use Rattle.ast_core.specs.NodeView.{attributes_view, entries_view, node_view, nodes_view, location_of};
+ghost use Rattle.ast_core.specs.NodeView.{attributes_view, entries_view, location_of};
 ghost use Rattle.component_calls.specs.Faults.{Judged, doubled, duplicate, misused};
-ghost use Rattle.component_calls.specs.Tags.{all_space, first_among, first_repeat, is_blank, is_slot, is_space, modules_of, names_of, node_blank, slots_of};
+ghost use Rattle.component_calls.specs.Tags.{first_among, first_repeat, is_slot, modules_of, names_of, slots_of};
 ghost use Rattle.component_calls.specs.Steps.{name_of, module_of_value};
 
 use crate::fault::{LinkKind, NodeFault};
 use crate::known::is_one_of;
-use ast_core::{Attribute, AttributeValue, Attributes, Entries, Location, Node, Nodes};
+use ast_core::{Attribute, AttributeValue, Attributes, Entries, Location};
 use std::alloc::Global;
 use text_core::{Names, OutOfMemory, Text};
 
@@ -136,48 +136,4 @@ pub(crate) fn is_slot(name: &str) -> bool
         [first, ..] => *first == b':',
         [] => false,
     }
-}
-
-fn is_space(byte: u8) -> bool
-    ensures { result ≡ is_space byte }
-{
-    byte == b' ' || byte == b'\t' || byte == b'\n' || byte == b'\r'
-}
-
-fn all_space(bytes: &[u8]) -> bool
-    ensures { result ≡ all_space bytes.now }
-{
-    'bytes: for byte in bytes {
-        if !is_space(*byte) {
-            return false;
-        }
-    }
-    true
-}
-
-fn node_blank(node: &Node) -> bool
-    ensures { result ≡ node_blank (node_view node.now) }
-{
-    match node {
-        Node::Text(text) => all_space(text.as_str().as_bytes()),
-        Node::Element {
-            at: _,
-            name: _,
-            attributes: _,
-            children: _,
-        } => false,
-        Node::Place { at: _, place: _ } => false,
-    }
-}
-
-/// Whether nodes are white space alone.
-pub(crate) fn is_blank(nodes: &Nodes) -> bool
-    ensures { result ≡ is_blank (nodes_view nodes.now) }
-{
-    'nodes: for node in nodes.as_slice() {
-        if !node_blank(node) {
-            return false;
-        }
-    }
-    true
 }

@@ -3,9 +3,9 @@
 //! A bundle is written as its templates, each behind its name, with `|` before each further one: `a=<.b />|b=x`. A module
 //! is written as `Name:template` in a list of its own. A refusal is its template, its place and its kind, as
 //! `a 1:1 UnknownComponent nope`; a linked bundle is `ok` with the numbers of its slot bodies as they stand in templates,
-//! and behind a stroke those of the list.
+//! `-` for content of white space alone, and behind a stroke those of the list.
 use ast_core::{
-    Bodies, Clauses, Entries, Module, Modules, Node, Nodes, Place, SlotBody, Templates,
+    Bodies, Clauses, Entries, Module, Modules, Node, Nodes, Place, SlotBody, Templates, is_blank,
 };
 use component_calls::{LinkFault, LinkKind, LinkedBundle, is_in_order, link};
 use heex_reader::read_template;
@@ -55,14 +55,14 @@ fn write_place(out: &mut String, place: &Place) -> Result<(), AllocError> {
             content,
             entries,
         } => {
-            write_body(out, content)?;
+            write_content(out, content)?;
             write_entries(out, entries)
         }
         Place::LiveCall {
             attributes: _,
             content,
             entries: _,
-        } => write_body(out, content),
+        } => write_content(out, content),
         Place::RenderSlot {
             value: _,
             argument: _,
@@ -82,6 +82,16 @@ fn write_clauses(out: &mut String, clauses: &Clauses) -> Result<(), AllocError> 
         write_nodes(out, &clause.body)?;
     }
     Ok(())
+}
+
+#[cycle(node)]
+fn write_content(out: &mut String, body: &SlotBody) -> Result<(), AllocError> {
+    if is_blank(&body.nodes) {
+        out.push_str(" -")?;
+        write_nodes(out, &body.nodes)
+    } else {
+        write_body(out, body)
+    }
 }
 
 #[cycle(node)]
