@@ -126,7 +126,7 @@ mutual
 abbrev pub gathered : List SlotBody → List Body
 gathered bs = map body_view bs
 
-next_number : (a b : List SlotBody) (xs : List Body) (n : ℕ) → gathered b ≡ gathered a ++ xs → length xs ≡ n → length b ≡ length a + n
+pub next_number : (a b : List SlotBody) (xs : List Body) (n : ℕ) → gathered b ≡ gathered a ++ xs → length xs ≡ n → length b ≡ length a + n
 next_number a b xs n step long =
     let grown : length b ≡ length a + length xs = sym (length-map b body_view) ∙ ap length step ∙ length-append (gathered a) xs ∙ ap (λ m. m + length xs) (length-map a body_view) in
     omega (arith, grown, long)

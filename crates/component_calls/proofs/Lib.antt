@@ -6,3 +6,7 @@ pub mod Seen
 pub mod Lists
 pub mod Judged
 pub mod Counted
+pub mod Added
+pub mod Numbered
+pub mod Settling
+pub mod Bare

@@ -1,14 +1,18 @@
 -- The least way, call by call.
 use Rattle.std.proofs.Common.{◌≡◌, ℕ, suc, ◌+◌, ◌-◌, ◌<◌, ◌≤◌, List, [], ◌∷◌, ◌++◌, length, get_or, Bool, true, false, Some, None, true≢false, refl, sym, ap, ◌∙◌, subst, arith, append_assoc}
 use Rattle.component_calls.specs.Cycles.{IsRound, ReachesNotItself}
-use Rattle.component_calls.specs.Layers.{IsLeastLead, IsLeastWay, layer_at, least_from, missing, next_layer}
+use Rattle.component_calls.specs.Layers.{IsLeastLead, IsLeastWay, layer_at, layers_below, least_from, missing, next_layer}
 use Rattle.component_calls.proofs.Leasts.{least_none, least_some}
 use Rattle.component_calls.proofs.Shrinking.{grows}
-use Rattle.component_calls.proofs.Ways.{ends, goes_on, layer_more, layer_none, leads_on, longer, never, some_leads}
+use Rattle.component_calls.proofs.Ways.{ends, goes_on, layer_more, layer_none, layers_get, leads_on, longer, never, some_leads}
 
 -- with one call more than there are left
 one_more : (n : ℕ) → 0 < n → n ≡ suc (n - 1)
 one_more n h = omega arith
+
+-- the layer that is looked at
+pub layer_is : (g : List (List ℕ)) (t steps n : ℕ) (layers : List (List Bool)) → layers ≡ layers_below g t steps → 0 < n → n ≤ steps → get_or layers (n - 1) [] ≡ layer_at g t (n - 1)
+layer_is g t steps n layers is h within = ap (λ (ls : List (List Bool)). get_or ls (n - 1) []) is ∙ layers_get g t steps (n - 1) (omega arith)
 
 -- the call that is taken
 lead_is : (g : List (List ℕ)) (t k a c : ℕ) (r : List Bool) → r ≡ layer_at g t k → Some c ≡ least_from t r None (get_or g a []) → IsLeastLead t (layer_at g t k) (get_or g a []) c

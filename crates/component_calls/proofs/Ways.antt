@@ -1,9 +1,10 @@
 -- What layers tell of ways, and the least way step by step.
-use Rattle.std.proofs.Common.{◌≡◌, ◌≢◌, ◌⊎◌, inl, inr, ℕ, zero, suc, ◌+◌, ◌<◌, ◌≤◌, List, [], ◌∷◌, length, map, get_or, Bool, true, false, ◌||◌, ◌==◌, true≢false, refl, sym, ap, ◌∙◌, subst, arith, suc-le-suc, le_of_suc-le-suc, eq-or-lt_of_le, le_trans, zero-add, suc-add, add-one}
+use Rattle.std.proofs.Common.{◌≡◌, ◌≢◌, ◌⊎◌, inl, inr, ℕ, zero, suc, ◌+◌, ◌<◌, ◌≤◌, List, [], ◌∷◌, ◌++◌, length, length-append, map, get_or, Bool, true, false, ◌||◌, ◌==◌, true≢false, refl, sym, ap, ◌∙◌, subst, arith, suc-le-suc, le_of_suc-le-suc, eq-or-lt_of_le, le_trans, zero-add, suc-add, add-one}
 use Rattle.std.proofs.lemmas.Bool.{eqb-true, eq-eqb}
+use Rattle.std.proofs.lemmas.List.{get_or-append-add, get_or_append_left}
 use Rattle.std.proofs.Math.ListN.{get_or-map}
 use Rattle.component_calls.specs.Cycles.{Among, AtMost, HasSteps, IsLeastRound, IsRound, IsWay, ReachesNotItself}
-use Rattle.component_calls.specs.Layers.{IsLeastLead, IsLeastWay, layer_at, leads, leads_by, next_layer}
+use Rattle.component_calls.specs.Layers.{IsLeastLead, IsLeastWay, layer_at, layers_below, leads, leads_by, next_layer}
 
 pub or_left : (a b : Bool) → a ≡ true → (a || b) ≡ true
 or_left true b h = refl
@@ -117,3 +118,25 @@ calls_nothing g b none (c ∷ w) round = subst (λ (cs : List ℕ). Among c cs) 
 -- the layer of one call more
 pub layer_more : (g : List (List ℕ)) (t n : ℕ) → layer_at g t (n + 1) ≡ next_layer g t (layer_at g t n)
 layer_more g t n = ap (layer_at g t) (add-one n)
+
+pub layers_more : (g : List (List ℕ)) (t n : ℕ) → layers_below g t (n + 1) ≡ layers_below g t n ++ layer_at g t n ∷ []
+layers_more g t n = ap (layers_below g t) (add-one n)
+
+layers_long : (g : List (List ℕ)) (t m : ℕ) → length (layers_below g t m) ≡ m
+layers_long g t zero = refl
+layers_long g t (suc m) = length-append (layers_below g t m) (layer_at g t m ∷ []) ∙ ap (λ n. n + 1) (layers_long g t m) ∙ add-one m
+
+-- the layers, place by place
+pub layers_get : (g : List (List ℕ)) (t m n : ℕ) → n < m → get_or (layers_below g t m) n [] ≡ layer_at g t n
+layers_get g t zero n h = absurd (omega arith)
+layers_get g t (suc m) n h = by (eq-or-lt_of_le (le_of_suc-le-suc h))
+  where
+    by : (n ≡ m) ⊎ (n < m) → get_or (layers_below g t (suc m)) n [] ≡ layer_at g t n
+    by (inl e) =
+        let long : length (layers_below g t m) ≡ m = layers_long g t m in
+        let at : n ≡ length (layers_below g t m) + 0 = omega (arith, long, e) in
+        ap (λ (i : ℕ). get_or (layers_below g t (suc m)) i []) at ∙ get_or-append-add (layers_below g t m) (layer_at g t m ∷ []) 0 [] ∙ ap (layer_at g t) (sym e)
+    by (inr l) =
+        let long : length (layers_below g t m) ≡ m = layers_long g t m in
+        let inside : n < length (layers_below g t m) = omega (arith, long, l) in
+        get_or_append_left (layers_below g t m) (layer_at g t m ∷ []) [] n inside ∙ layers_get g t m n l

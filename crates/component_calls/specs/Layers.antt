@@ -1,5 +1,5 @@
 -- Which templates reach a template in at most so many calls.
-use Rattle.std.specs.Prelude.{◌≡◌, ℕ, zero, suc, ◌≤◌, ◌<◌, List, [], ◌∷◌, map, length, get_or, min, Bool, true, false, ◌==◌, ◌||◌, if◌then◌else◌, Option, None, Some}
+use Rattle.std.specs.Prelude.{◌≡◌, ℕ, zero, suc, ◌≤◌, ◌<◌, List, [], ◌∷◌, ◌++◌, map, length, get_or, min, Bool, true, false, ◌==◌, ◌||◌, ◌&&◌, if◌then◌else◌, Option, None, Some}
 use Rattle.component_calls.specs.Cycles.{Among, IsWay, IsRound, HasSteps, AtMost}
 
 -- whether a call to a template leads to the target, where a layer tells which templates do
@@ -21,6 +21,27 @@ next_layer g t layer = map (leads t layer) g
 abbrev pub layer_at : List (List ℕ) → ℕ → ℕ → List Bool
 layer_at g t zero = none_of g
 layer_at g t (suc n) = next_layer g t (layer_at g t n)
+
+abbrev pub layers_below : List (List ℕ) → ℕ → ℕ → List (List Bool)
+layers_below g t zero = []
+layers_below g t (suc n) = layers_below g t n ++ layer_at g t n ∷ []
+
+-- whether all of some templates are settled; what is no template is
+abbrev pub settles : List Bool → List ℕ → Bool
+settles settled [] = true
+settles settled (c ∷ cs) = get_or settled c true && settles settled cs
+
+-- the templates that are settled in the n-th round: they call none but those that were settled before
+abbrev pub next_settled : List (List ℕ) → List Bool → List Bool
+next_settled g settled = map (settles settled) g
+
+abbrev pub settled_at : List (List ℕ) → ℕ → List Bool
+settled_at g zero = none_of g
+settled_at g (suc n) = next_settled g (settled_at g n)
+
+abbrev pub are_all : List Bool → Bool
+are_all [] = true
+are_all (b ∷ bs) = b && are_all bs
 
 -- how many templates are not in a layer
 abbrev pub missing : List Bool → ℕ

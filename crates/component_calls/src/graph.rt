@@ -1,7 +1,7 @@
 //! The search for a template that reaches itself. It goes over templates by loops, so that no chain of calls is too long.
 ghost use Rattle.std.specs.Prelude.{◌≡◌, ◌≤◌, ℕ, List, [], ◌∷◌, length, get_or, true, false, None, IfOk, IsTrue, ◌↔◌, MatchOption};
 ghost use Rattle.component_calls.specs.Cycles.{IsAcyclic, IsLeastCycle, IsRound, ReachesNotItself};
-ghost use Rattle.component_calls.specs.Layers.{IsLeastWay, layer_at, leads, leads_by, least_from, least_with, lesser, next_layer, none_of};
+ghost use Rattle.component_calls.specs.Layers.{IsLeastWay, are_all, layer_at, layers_below, leads, leads_by, least_from, least_with, lesser, next_layer, next_settled, none_of, settles};
 
 use std::alloc::Global;
 use text_core::{OutOfMemory, Seq};
@@ -48,6 +48,65 @@ fn none_of(alloc: Global, graph: &Graph) -> Result<Layer, OutOfMemory>
     Ok(layer)
 }
 
+fn is_settled(settled: &Layer, callee: usize) -> bool
+    ensures { result ≡ get_or settled.now callee true }
+{
+    match settled.as_slice().get(callee) {
+        Some(is_settled) => *is_settled,
+        None => true,
+    }
+}
+
+fn settles(settled: &Layer, callees: &Seq<usize>) -> bool
+    ensures { result ≡ settles settled.now callees.now }
+{
+    'callees: for callee in callees.as_slice() {
+        if !is_settled(settled, *callee) {
+            return false;
+        }
+    }
+    true
+}
+
+// The templates that call none but settled ones.
+fn next_settled(alloc: Global, graph: &Graph, settled: &Layer) -> Result<Layer, OutOfMemory>
+    ensures { IfOk result (λ r. r ≡ next_settled graph.now settled.now) }
+{
+    let mut next = Layer::new(alloc);
+    'templates: for callees in graph.as_slice() {
+        next.push(settles(settled, callees))?;
+    }
+    Ok(next)
+}
+
+fn are_all(settled: &Layer) -> bool
+    ensures { result ≡ are_all settled.now }
+{
+    'templates: for is_settled in settled.as_slice() {
+        if !*is_settled {
+            return false;
+        }
+    }
+    true
+}
+
+// Whether every template is settled after as many rounds as there are templates. Then none reaches itself; this takes far
+// fewer steps than the search for a cycle.
+fn is_settling(alloc: Global, graph: &Graph) -> Result<bool, OutOfMemory>
+    ensures { IfOk result (λ b. IsTrue b → IsAcyclic graph.now) }
+{
+    let mut settled = none_of(alloc, graph)?;
+    let mut rounds = 0;
+    'rounds: while rounds < graph.len() {
+        if are_all(&settled) {
+            return Ok(true);
+        }
+        settled = next_settled(alloc, graph, &settled)?;
+        rounds += 1;
+    }
+    Ok(are_all(&settled))
+}
+
 // The templates that call one that leads to the target.
 fn next_layer(
     alloc: Global,
@@ -64,17 +123,25 @@ fn next_layer(
     Ok(next)
 }
 
-// The templates that reach the target in at most so many calls.
-fn layer_at(alloc: Global, graph: &Graph, target: usize, steps: usize) -> Result<Layer, OutOfMemory>
-    ensures { IfOk result (λ r. r ≡ layer_at graph.now target steps) }
+// For each number below this one the templates that reach the target in at most so many calls.
+fn layers_below(
+    alloc: Global,
+    graph: &Graph,
+    target: usize,
+    steps: usize,
+) -> Result<Seq<Layer>, OutOfMemory>
+    ensures { IfOk result (λ ls. ls ≡ layers_below graph.now target steps) }
 {
+    let mut layers = Seq::new(alloc);
     let mut layer = none_of(alloc, graph)?;
     let mut done = 0;
     'steps: while done < steps {
-        layer = next_layer(alloc, graph, target, &layer)?;
+        let next = next_layer(alloc, graph, target, &layer)?;
+        layers.push(layer)?;
+        layer = next;
         done += 1;
     }
-    Ok(layer)
+    Ok(layers)
 }
 
 fn is_same(left: &Layer, right: &Layer) -> bool
@@ -148,6 +215,22 @@ fn least_step(target: usize, layer: &Layer, graph: &Graph, at: usize) -> Option<
     }
 }
 
+// The same, where the target is to be reached in at most so many calls after that.
+fn least_in(
+    target: usize,
+    layers: &Seq<Layer>,
+    left: usize,
+    graph: &Graph,
+    at: usize,
+) -> Option<usize>
+    ensures { result ≡ least_from target (get_or layers.now left []) None (get_or graph.now at []) }
+{
+    match layers.as_slice().get(left) {
+        Some(layer) => least_step(target, layer, graph, at),
+        None => None,
+    }
+}
+
 // The least way of at most so many calls from the target to itself.
 fn least_way(
     alloc: Global,
@@ -158,13 +241,13 @@ fn least_way(
     requires { get_or (layer_at graph.now target steps) target false ≡ true }
     ensures { IfOk result (IsLeastWay graph.now target steps target) }
 {
+    let layers = layers_below(alloc, graph, target, steps)?;
     let mut way = Seq::new(alloc);
     let mut at = target;
     let mut left = steps;
     'steps: while left > 0 {
         left -= 1;
-        let layer = layer_at(alloc, graph, target, left)?;
-        match least_step(target, &layer, graph, at) {
+        match least_in(target, &layers, left, graph, at) {
             Some(callee) => {
                 way.push(callee)?;
                 if callee == target {
@@ -189,6 +272,15 @@ fn round(alloc: Global, start: usize, way: Seq<usize>) -> Result<Seq<usize>, Out
 
 /// The cycle of the least template that reaches itself, or nothing where none does.
 pub(crate) fn find_cycle(alloc: Global, graph: &Graph) -> Result<Option<Seq<usize>>, OutOfMemory>
+    ensures { IfOk result (λ o. MatchOption o (IsAcyclic graph.now) (IsLeastCycle graph.now)) }
+{
+    if is_settling(alloc, graph)? {
+        return Ok(None);
+    }
+    find_least(alloc, graph)
+}
+
+fn find_least(alloc: Global, graph: &Graph) -> Result<Option<Seq<usize>>, OutOfMemory>
     ensures { IfOk result (λ o. MatchOption o (IsAcyclic graph.now) (IsLeastCycle graph.now)) }
 {
     'targets: for target in 0..graph.len() {

@@ -4,7 +4,7 @@ ghost use Rattle.std.specs.Str.{bytes_eq};
 ghost use Rattle.ast_core.specs.NodeView.{attributes_view, body_view, clause_view, clauses_view, entries_view, entry_view, location_of, node_view, nodes_view, place_view};
 ghost use Rattle.component_calls.specs.Faults.{Judged, body_fault, clause_fault, declared_in, entry_fault, fault_at, fault_in, fault_of, is_bare, is_told, live_fault, unknown};
 ghost use Rattle.component_calls.specs.Steps.{fault_in_entry};
-ghost use Rattle.component_calls.specs.Tags.{first_unknown};
+ghost use Rattle.component_calls.specs.Tags.{first_unknown, has_no_entries};
 
 use crate::fault::{LinkKind, NodeFault};
 use crate::known::{Known, is_one_of};
@@ -24,11 +24,20 @@ fn is_told(alloc: Global, attributes: &Attributes) -> Result<bool, OutOfMemory>
     Ok(!modules.is_empty() && is_one_of("id", names.as_slice()))
 }
 
+fn has_none(entries: &Entries) -> bool
+    ensures { result ≡ has_no_entries (entries_view entries.now) }
+{
+    match entries.as_slice() {
+        [] => true,
+        [_first, ..] => false,
+    }
+}
+
 // Whether there is no content but white space, and no entry.
 fn is_bare(content: &SlotBody, entries: &Entries) -> bool
     ensures { result ≡ is_bare (body_view content.now) (entries_view entries.now) }
 {
-    is_blank(&content.nodes) && entries.is_empty()
+    is_blank(&content.nodes) && has_none(entries)
 }
 
 // Whether a live call is as it has to be.

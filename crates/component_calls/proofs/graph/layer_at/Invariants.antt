@@ -1,9 +1,0 @@
-use Rattle.std.proofs.Common.{◌≡◌, ◌≤◌, ◌-◌}
-use Rattle.component_calls.specs.Layers.{layer_at}
-use Rattle.component_calls.proofs.graph.layer_at.Given as goal
-
-abbrev pub invariant-steps : goal.invariant-steps
-invariant-steps l = (l.done ≤ l.steps) × (l.layer ≡ layer_at l.graph l.target l.done)
-
-abbrev pub decreases-steps : goal.decreases-steps
-decreases-steps l = l.steps - l.done
