@@ -2,8 +2,8 @@
 use Rattle.std.specs.Prelude.{ℕ, List, [], ◌∷◌, map, Bool, true, Option, Some, None, Ok, option_map}
 use Rattle.text_core.specs.declared.by_key.KeyValue.{KeyValue}
 use Rattle.value_core.specs.Value as model
-use Rattle.value_core.specs.Value.{text, boolean, list, Values, no_values, value, Assigns, no_assigns}
-use Rattle.value_core.specs.View.{view, view_step, slot_step, assigns_view}
+use Rattle.value_core.specs.Value.{text, boolean, Values, no_values, value, Assigns, no_assigns}
+use Rattle.value_core.specs.View.{view, view_step, slot_step, values_view, assigns_view}
 use Rattle.value_core.specs.declared.value.Value.{Value}
 use Rattle.value_core.specs.declared.value.SlotValue.{SlotValue}
 use Rattle.value_core.specs.declared.value.Value.TheFolds.{fold-SlotValue}
@@ -12,31 +12,43 @@ use Rattle.ast_core.specs.declared.node.AttributeValue.{AttributeValue}
 use Rattle.ast_core.specs.declared.node.AttributeValue.TheVariants as form
 use Rattle.ast_core.specs.ExprView.{expr_view}
 use Rattle.doc_model.specs.Environment.{Env, bindings, lookup, with_key, with_option}
-use Rattle.doc_model.specs.Evaluation.{Res, then_do, on_res, eval_expr, is_true, append_values}
+use Rattle.doc_model.specs.Evaluation.{Res, then_do, on_res, eval_expr, is_true}
 use Rattle.doc_model.specs.Calls as calls
-use Rattle.doc_model.specs.Calls.{laid_over, spread_entries, items_of, values_at}
+use Rattle.doc_model.specs.Calls.{add_named, add_spread, add_entries, spread_entries, items_of}
 use Rattle.call_values.specs.declared.attributes.Passed.{Passed}
+use Rattle.call_values.specs.declared.attributes.Given.{Given}
+use Rattle.call_values.specs.declared.attributes.Given.TheVariants.{Named, Spread, Nothing}
 
 -- what spreads and what written attributes pass, seen
 abbrev pub passed_view : Passed → calls.Passed
 passed_view p = record { by_spreads = assigns_view p.by_spreads; by_names = assigns_view p.by_names }
 
--- with a written attribute more, which holds over those before it
-abbrev pub named_over : List ℕ → model.Value → calls.Passed → calls.Passed
-named_over n v p = record p { by_names = with_key n v p.by_names }
+-- with a written attribute of a new name
+abbrev pub named_too : List ℕ → model.Value → calls.Passed → calls.Passed
+named_too n v later = record later { by_names = with_key n v later.by_names }
 
--- with a spread more, which holds over those before it
-abbrev pub spread_over : Assigns → calls.Passed → calls.Passed
-spread_over more p = record p { by_spreads = laid_over more p.by_spreads }
+-- what one attribute adds to what is written behind it
+abbrev pub given_view : Given → calls.Passed → calls.Passed
+given_view (Named n v) = add_named n (view v)
+given_view (Spread as') = add_spread (assigns_view as')
+given_view Nothing = λ p. p
 
--- with an attribute more, behind the others
-abbrev pub behind : Env → List ℕ → AttributeValue → calls.Passed → Res calls.Passed
-behind env n (form.Double t) p = Ok (named_over n (text t) p)
-behind env n (form.Single t) p = Ok (named_over n (text t) p)
-behind env n form.Bare p = Ok (named_over n (boolean true) p)
-behind env n (form.Put e) p = on_res (λ v. named_over n v p) (eval_expr env (expr_view e))
-behind env n (form.Spread e) p = on_res (λ more. spread_over more p) (then_do (eval_expr env (expr_view e)) spread_entries)
-behind env n (form.Module m) p = Ok p
+-- the same, evaluated
+abbrev pub given_by : Env → List ℕ → AttributeValue → Res (calls.Passed → calls.Passed)
+given_by env n (form.Double t) = Ok (add_named n (text t))
+given_by env n (form.Single t) = Ok (add_named n (text t))
+given_by env n form.Bare = Ok (add_named n (boolean true))
+given_by env n (form.Put e) = on_res (add_named n) (eval_expr env (expr_view e))
+given_by env n (form.Spread e) = on_res add_spread (then_do (eval_expr env (expr_view e)) spread_entries)
+given_by env n (form.Module m) = Ok (λ p. p)
+
+-- all that is given, one before the other
+abbrev pub put_before : List Given → calls.Passed → calls.Passed
+put_before [] p = p
+put_before (g ∷ gs) p = given_view g (put_before gs p)
+
+abbrev pub passed_of : List Given → calls.Passed
+passed_of gs = put_before gs (record { by_spreads = no_assigns; by_names = no_assigns })
 
 -- the values of some names, where they have one
 abbrev pub picked : Assigns → List (List ℕ) → Assigns
@@ -60,9 +72,13 @@ rows_of env g = on_res (bindings g.pattern) (then_do (eval_expr env g.items) ite
 abbrev pub rows_view : List (List (KeyValue Value)) → List Assigns
 rows_view rows = map assigns_view rows
 
--- with more entries of a slot, behind those that it has
-abbrev pub slot_on : List ℕ → Values → Assigns → Assigns
-slot_on s vs slots = with_key s (list (append_values (values_at (lookup s slots)) vs)) slots
+-- the entries of slots, each before those behind it
+abbrev pub entries_before : List (KeyValue (List Value)) → Assigns → Assigns
+entries_before [] later = later
+entries_before (e ∷ es) later = add_entries e.key (values_view e.value) (entries_before es later)
+
+abbrev pub slots_of : List (KeyValue (List Value)) → Assigns
+slots_of es = entries_before es no_assigns
 
 -- a value where there is one, and a slot, seen
 abbrev pub option_seen : Option Value → Option model.Value

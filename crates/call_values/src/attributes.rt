@@ -2,11 +2,10 @@
 ghost use Rattle.std.specs.Prelude.{◌≡◌, IfOk};
 ghost use Rattle.value_core.specs.View.{view, assigns_view};
 ghost use Rattle.ast_core.specs.NodeView.{attributes_view};
-ghost use Rattle.doc_model.specs.Calls.{all_passed, eval_attributes, laid_over, spread_entries};
-ghost use Rattle.doc_model.specs.Evaluation.{on_res};
+ghost use Rattle.doc_model.specs.Calls.{add_named, add_spread, all_passed, eval_attributes, laid_over, spread_entries};
 ghost use Rattle.expr_eval.specs.Gives.{Gives};
 ghost use Rattle.call_values.specs.Scope.{InScope};
-ghost use Rattle.call_values.specs.Passing.{behind, named_over, passed_view, spread_over};
+ghost use Rattle.call_values.specs.Passing.{given_by, given_view, named_too, passed_of, passed_view};
 
 use ast_core::{Attribute, AttributeValue, Attributes};
 use expr_eval::{EvalFault, Variables, eval};
@@ -21,7 +20,15 @@ pub(crate) struct Passed {
     pub(crate) by_names: Assigns,
 }
 
-/// What attributes pass, evaluated from left to right: of two of one name the later holds.
+// What one attribute passes: a value under its name, the entries of a spread, or nothing.
+#[derive(Debug, Drop)]
+enum Given {
+    Named { name: Text, value: Value },
+    Spread(Assigns),
+    Nothing,
+}
+
+/// What attributes pass, evaluated from left to right: of two of one name the later holds, and so of two spreads.
 pub(crate) fn passed(
     alloc: Global,
     assigns: &Assigns,
@@ -30,14 +37,8 @@ pub(crate) fn passed(
 ) -> Result<Passed, EvalFault>
     ensures { InScope assigns.now variables.now (λ env. Gives passed_view result (eval_attributes env (attributes_view attributes.now))) }
 {
-    let mut passed = Passed {
-        by_spreads: ByKey::new(alloc),
-        by_names: ByKey::new(alloc),
-    };
-    'attributes: for attribute in attributes.as_slice() {
-        passed = with_attribute(alloc, assigns, variables, passed, attribute)?;
-    }
-    Ok(passed)
+    let given = all_given(alloc, assigns, variables, attributes)?;
+    Ok(put_together(alloc, given)?)
 }
 
 /// All that is passed: what is written holds over every spread.
@@ -63,66 +64,109 @@ pub(crate) fn laid_over(over: Assigns, below: Assigns) -> Result<Assigns, OutOfM
     Ok(all)
 }
 
-// What is passed with one attribute more, which is written behind the others.
-fn with_attribute(
+// What attributes give, from left to right.
+fn all_given(
     alloc: Global,
     assigns: &Assigns,
     variables: &Variables,
-    passed: Passed,
+    attributes: &Attributes,
+) -> Result<Seq<Given>, EvalFault>
+    ensures { InScope assigns.now variables.now (λ env. Gives passed_of result (eval_attributes env (attributes_view attributes.now))) }
+{
+    let mut all = Seq::new(alloc);
+    'attributes: for attribute in attributes.as_slice() {
+        let given = given_by(alloc, assigns, variables, attribute)?;
+        all.push(given)?;
+    }
+    Ok(all)
+}
+
+fn given_by(
+    alloc: Global,
+    assigns: &Assigns,
+    variables: &Variables,
     attribute: &Attribute,
-) -> Result<Passed, EvalFault>
-    ensures { InScope assigns.now variables.now (λ env. Gives passed_view result (behind env attribute.now.name attribute.now.value (passed_view passed))) }
+) -> Result<Given, EvalFault>
+    ensures { InScope assigns.now variables.now (λ env. Gives given_view result (given_by env attribute.now.name attribute.now.value)) }
 {
     match &attribute.value {
-        AttributeValue::Double(text) | AttributeValue::Single(text) => {
-            let value = Value::Text(text.copy(alloc)?);
-            Ok(with_name(alloc, passed, &attribute.name, value)?)
-        }
-        AttributeValue::Bare => {
-            let value = Value::Bool(true);
-            Ok(with_name(alloc, passed, &attribute.name, value)?)
-        }
-        AttributeValue::Put(expr) => {
-            let value = eval(alloc, assigns, variables, expr)?;
-            Ok(with_name(alloc, passed, &attribute.name, value)?)
-        }
+        AttributeValue::Double(text) | AttributeValue::Single(text) => Ok(Given::Named {
+            name: attribute.name.copy(alloc)?,
+            value: Value::Text(text.copy(alloc)?),
+        }),
+        AttributeValue::Bare => Ok(Given::Named {
+            name: attribute.name.copy(alloc)?,
+            value: Value::Bool(true),
+        }),
+        AttributeValue::Put(expr) => Ok(Given::Named {
+            value: eval(alloc, assigns, variables, expr)?,
+            name: attribute.name.copy(alloc)?,
+        }),
         AttributeValue::Spread(expr) => {
             let value = eval(alloc, assigns, variables, expr)?;
-            with_spread(alloc, passed, value)
+            Ok(Given::Spread(spread_entries(alloc, value)?))
         }
-        AttributeValue::Module(_) => Ok(passed),
+        AttributeValue::Module(_) => Ok(Given::Nothing),
     }
 }
 
-fn with_name(
-    alloc: Global,
-    passed: Passed,
-    name: &Text,
-    value: Value,
-) -> Result<Passed, OutOfMemory>
-    ensures { IfOk result (λ p. passed_view p ≡ named_over name.now (view value) (passed_view passed)) }
+// What is given, put together from the last: what stands there already is written later, and holds.
+fn put_together(alloc: Global, given: Seq<Given>) -> Result<Passed, OutOfMemory>
+    ensures { IfOk result (λ p. passed_view p ≡ passed_of given) }
+{
+    let mut given = given;
+    let mut passed = Passed {
+        by_spreads: ByKey::new(alloc),
+        by_names: ByKey::new(alloc),
+    };
+    'given: while let Some(one) = given.pop() {
+        passed = with_given(passed, one)?;
+    }
+    Ok(passed)
+}
+
+fn with_given(later: Passed, given: Given) -> Result<Passed, OutOfMemory>
+    ensures { IfOk result (λ p. passed_view p ≡ given_view given (passed_view later)) }
+{
+    match given {
+        Given::Named { name, value } => with_name(later, name, value),
+        Given::Spread(entries) => with_spread(later, entries),
+        Given::Nothing => Ok(later),
+    }
+}
+
+fn with_name(later: Passed, name: Text, value: Value) -> Result<Passed, OutOfMemory>
+    ensures { IfOk result (λ p. passed_view p ≡ add_named name (view value) (passed_view later)) }
+{
+    if later.by_names.contains(name.as_str()) {
+        return Ok(later);
+    }
+    with_new_name(later, name, value)
+}
+
+fn with_new_name(later: Passed, name: Text, value: Value) -> Result<Passed, OutOfMemory>
+    ensures { IfOk result (λ p. passed_view p ≡ named_too name (view value) (passed_view later)) }
 {
     let Passed {
         by_spreads,
         by_names,
-    } = passed;
+    } = later;
     let mut by_names = by_names;
-    by_names.insert(name.copy(alloc)?, value)?;
+    by_names.insert(name, value)?;
     Ok(Passed {
         by_spreads,
         by_names,
     })
 }
 
-fn with_spread(alloc: Global, passed: Passed, value: Value) -> Result<Passed, EvalFault>
-    ensures { Gives passed_view result (on_res (λ more. spread_over more (passed_view passed)) (spread_entries (view value))) }
+fn with_spread(later: Passed, entries: Assigns) -> Result<Passed, OutOfMemory>
+    ensures { IfOk result (λ p. passed_view p ≡ add_spread (assigns_view entries) (passed_view later)) }
 {
-    let entries = spread_entries(alloc, value)?;
     let Passed {
         by_spreads,
         by_names,
-    } = passed;
-    let by_spreads = laid_over(entries, by_spreads)?;
+    } = later;
+    let by_spreads = laid_over(by_spreads, entries)?;
     Ok(Passed {
         by_spreads,
         by_names,
