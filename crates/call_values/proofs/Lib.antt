@@ -1,2 +1,5 @@
+pub mod Captured
 pub mod Gathered
 pub mod Picked
+pub mod Rows
+pub mod Taken
