@@ -63,6 +63,9 @@ graph_kept k n (v ∷ vs) =
     (ap (λ (ss : List Seen). map callee_of ss) (nodes_calls k n v.nodes)) (graph_kept k (n + length (bodies_in v.nodes)) vs)
 
 -- numbered templates are numbered, and their bodies are those that are listed
+abbrev template_of : List ℕ → Nodes → model.Template
+template_of t ns = record { name = t; nodes = ns }
+
 templates_twice : (n : ℕ) (vs : List model.Template) → number_templates n (number_templates n vs) ≡ number_templates n vs
 templates_twice n [] = refl
 templates_twice n (v ∷ vs) =
@@ -70,9 +73,6 @@ templates_twice n (v ∷ vs) =
     (number_templates (n + length (bodies_in (number_nodes n v.nodes))) (number_templates (n + length (bodies_in v.nodes)) vs)) (number_templates (n + length (bodies_in v.nodes)) vs)
     (ap (λ (ns : Nodes). template_of v.name ns) (nodes_twice n v.nodes))
     (ap (λ (j : ℕ). number_templates (n + j) (number_templates (n + length (bodies_in v.nodes)) vs)) (nodes_many n v.nodes) ∙ templates_twice (n + length (bodies_in v.nodes)) vs)
-  where
-    abbrev template_of : List ℕ → Nodes → model.Template
-    template_of t ns = record { name = t; nodes = ns }
 
 templates_listed : (n : ℕ) (vs : List model.Template) → all_bodies (number_templates n vs) ≡ numbered_templates n vs
 templates_listed n [] = refl
@@ -92,15 +92,15 @@ same_graph k ts us e = graph_seen k us ∙ ap (view_graph k) e ∙ graph_kept k 
 
 lawful_kept : (k : Known) (ts us : List Template) → map template_view us ≡ number_templates 0 (map template_view ts) → IsLawful k ts → IsLawful k us
 lawful_kept k ts us e lawful = (
-      ap (λ (o : Option Refusal). or_next (module_fault [] k.components) o) (same_faults k ts us e) ∙ lawful.0,
-      subst (λ (g : List (List ℕ)). IsAcyclic g) (sym (same_graph k ts us e)) lawful.1,
-    )
+  ap (λ (o : Option Refusal). or_next (module_fault [] k.components) o) (same_faults k ts us e) ∙ lawful.0,
+  subst (λ (g : List (List ℕ)). IsAcyclic g) (sym (same_graph k ts us e)) lawful.1,
+)
+
+abbrev known_by : List Module → List (List ℕ) → Known
+known_by ms ns = record { templates = ns; components = ms }
 
 same_known : (ts us : List Template) (ms : List Module) → map template_view us ≡ number_templates 0 (map template_view ts) → known_in ts ms ≡ known_in us ms
-same_known ts us ms e = ap (λ (ns : List (List ℕ)). known_by ns) (sym (same_names ts us e))
-  where
-    abbrev known_by : List (List ℕ) → Known
-    known_by ns = record { templates = ns; components = ms }
+same_known ts us ms e = ap (known_by ms) (sym (same_names ts us e))
 
 pub bundle_is : (l : Linked) (ts : List Template) → map template_view l.templates ≡ number_templates 0 (map template_view ts) → map body_view l.bodies ≡ numbered_templates 0 (map template_view ts)
     → IsLawful (known_in ts l.modules.components) ts → IsTrue (ascend (map template_name ts)) → IsLinkedBundle l

@@ -212,15 +212,15 @@ seen_new_entry : (l : Location) (s : List ℕ) (g : Option Generator) (e : Optio
 seen_new_entry l s g e xs b =
     fold-roll-Entry model.Node model.Place (model.Pattern × model.Nodes) SeenEntry model.Body node_step place_step clause_step entry_step body_step (record { at = l; slot = s; generator = g; test = e; attributes = xs; body = b })
 
+abbrev pair_of : model.Pattern → Nodes → model.Pattern × Nodes
+pair_of q ms = (q, ms)
+
 pub clause_numbered : (k : ℕ) (c : Clause) (p : Pattern) (ns : List Node) → pattern_view p ≡ pattern_view (out-Clause c).pattern → nodes_view ns ≡ number_nodes k (nodes_view (out-Clause c).body)
     → clause_view (roll-Clause (record { pattern = p; body = ns })) ≡ ((clause_view c).0, number_nodes k (clause_view c).1)
 clause_numbered k c p ns ep en =
     seen_new_clause p ns
     ∙ same2 (λ (q : model.Pattern) (ms : Nodes). pair_of q ms) (pattern_view p) (pattern_view (out-Clause c).pattern) (nodes_view ns) (number_nodes k (nodes_view (out-Clause c).body)) ep en
     ∙ sym (ap (λ (s : model.Pattern × Nodes). pair_of s.0 (number_nodes k s.1)) (seen_clause c))
-  where
-    abbrev pair_of : model.Pattern → Nodes → model.Pattern × Nodes
-    pair_of q ms = (q, ms)
 
 pub clause_size_is : (c : Clause) → length (bodies_in (nodes_view (out-Clause c).body)) ≡ length (bodies_in (clause_view c).1)
 clause_size_is c = ap (λ (s : model.Pattern × Nodes). length (bodies_in s.1)) (sym (seen_clause c))
@@ -250,18 +250,18 @@ inner_numbered k b p ns ep en =
 pub inner_size : (b : SlotBody) → length (inner_bodies (body_view b)) ≡ length (bodies_in (nodes_view (out-SlotBody b).nodes))
 inner_size b = ap (λ (c : Body). length (inner_bodies c)) (seen_body b)
 
+abbrev entry_with : Location → List ℕ → model.Attributes → Body → Option model.Generator → Option model.Expr → SeenEntry
+entry_with l n ys c h f = record { location = location_of l; slot = n; attributes = ys; generator = h; test = f; body = c }
+
 pub entry_numbered : (k : ℕ) (e : Entry) (s : List ℕ) (g : Option Generator) (t : Option Expr) (xs : List Attribute) (b : SlotBody) → s ≡ (out-Entry e).slot → option_map generator_view g ≡ option_map generator_view (out-Entry e).generator
     → option_map expr_view t ≡ option_map expr_view (out-Entry e).test → attributes_view xs ≡ attributes_view (out-Entry e).attributes → body_view b ≡ number_body k (body_view (out-Entry e).body)
     → entry_view (roll-Entry (record { at = (out-Entry e).at; slot = s; generator = g; test = t; attributes = xs; body = b })) ≡ number_entry k (entry_view e)
 entry_numbered k e s g t xs b es eg et ex eb =
     seen_new_entry (out-Entry e).at s g t xs b
-    ∙ ap (λ (n : List ℕ). by n (attributes_view xs) (body_view b) (option_map generator_view g) (option_map expr_view t)) es
-    ∙ same4 (by (out-Entry e).slot) (attributes_view xs) (attributes_view (out-Entry e).attributes) (body_view b) (number_body k (body_view (out-Entry e).body))
+    ∙ ap (λ (n : List ℕ). entry_with (out-Entry e).at n (attributes_view xs) (body_view b) (option_map generator_view g) (option_map expr_view t)) es
+    ∙ same4 (entry_with (out-Entry e).at (out-Entry e).slot) (attributes_view xs) (attributes_view (out-Entry e).attributes) (body_view b) (number_body k (body_view (out-Entry e).body))
     (option_map generator_view g) (option_map generator_view (out-Entry e).generator) (option_map expr_view t) (option_map expr_view (out-Entry e).test) ex eb eg et
     ∙ sym (ap (number_entry k) (seen_entry e))
-  where
-    abbrev by : List ℕ → model.Attributes → Body → Option model.Generator → Option model.Expr → SeenEntry
-    by n ys c h f = record { location = location_of (out-Entry e).at; slot = n; attributes = ys; generator = h; test = f; body = c }
 
 pub entry_size_is : (e : Entry) → length (body_bodies (body_view (out-Entry e).body)) ≡ length (body_bodies (entry_view e).body)
 entry_size_is e = ap (λ (s : SeenEntry). length (body_bodies s.body)) (sym (seen_entry e))
