@@ -137,8 +137,8 @@ number_place-returns-in_ok-number_nodes-in-StreamFor t c = record {
   next = omega (arith, stream_size c.args.place.now c.in-StreamFor.stream c.in-StreamFor.id c.in-StreamFor.pattern c.in-StreamFor.body c.in-StreamFor.is, c.in_ok-number_nodes-in-StreamFor.ensures.next);
 }
 
-pub number_clause-returns-in_ok-number_nodes : goal.number_clause-returns-in_ok-number_nodes
-number_clause-returns-in_ok-number_nodes t c = record {
+pub number_clause-returns : goal.number_clause-returns
+number_clause-returns t c = record {
   clause = clause_numbered c.args.next.now c.args.clause.now c.in_ok-copy_pattern.field-0 c.in_ok-number_nodes.field-0 c.in_ok-copy_pattern.ensures c.in_ok-number_nodes.ensures.nodes;
   next = c.in_ok-number_nodes.ensures.next ∙ ap (λ n. c.args.next.now + n) (clause_size_is c.args.clause.now);
 }
@@ -155,20 +155,20 @@ number_content-returns-else-is_blank t c = record {
   next = on_ok_weaker c.number_body.result (λ e. e ∙ ap (λ n. c.args.next.now + n) (size_full c.args.body.now c.is_blank.result c.is_blank.ensures c.if-is_blank.false)) c.number_body.ensures.next;
 }
 
-pub number_inner-returns-in_ok-number_nodes : goal.number_inner-returns-in_ok-number_nodes
-number_inner-returns-in_ok-number_nodes t c = record {
+pub number_inner-returns : goal.number_inner-returns
+number_inner-returns t c = record {
   body = inner_numbered c.args.next.now c.args.body.now c.in_ok-copy_let.field-0 c.in_ok-number_nodes.field-0 c.in_ok-copy_let.ensures c.in_ok-number_nodes.ensures.nodes;
   next = c.in_ok-number_nodes.ensures.next ∙ ap (λ n. c.args.next.now + n) (sym (inner_size c.args.body.now));
 }
 
-pub number_body-returns-in_ok-number_nodes : goal.number_body-returns-in_ok-number_nodes
-number_body-returns-in_ok-number_nodes t c = record {
+pub number_body-returns : goal.number_body-returns
+number_body-returns t c = record {
   body = body_numbered c.args.next.now c.in_ok-take_number.field-0 c.in_ok-take_number.ensures.number c.take_number.new.next c.args.body.now c.in_ok-copy_let.field-0 c.in_ok-number_nodes.field-0 c.in_ok-take_number.ensures.next c.in_ok-copy_let.ensures c.in_ok-number_nodes.ensures.nodes;
   next = omega (arith, body_size c.args.body.now, c.in_ok-number_nodes.ensures.next, c.in_ok-take_number.ensures.next);
 }
 
-pub number_entry-returns-in_ok-number_body : goal.number_entry-returns-in_ok-number_body
-number_entry-returns-in_ok-number_body t c = record {
+pub number_entry-returns : goal.number_entry-returns
+number_entry-returns t c = record {
   entry = entry_numbered c.args.next.now c.args.entry.now c.in_ok-copy.field-0 c.in_ok-copy_generator.field-0 c.in_ok-copy_test.field-0 c.in_ok-copy_attributes.field-0 c.in_ok-number_body.field-0
       c.in_ok-copy.ensures c.in_ok-copy_generator.ensures c.in_ok-copy_test.ensures c.in_ok-copy_attributes.ensures c.in_ok-number_body.ensures.body;
   next = c.in_ok-number_body.ensures.next ∙ ap (λ n. c.args.next.now + n) (entry_size_is c.args.entry.now);
