@@ -13,3 +13,4 @@ pub mod Bare
 pub mod Kept
 pub mod Bundle
 pub mod Refusing
+pub mod InOrder

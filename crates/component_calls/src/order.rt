@@ -24,7 +24,8 @@ pub fn is_in_order(templates: &Templates) -> bool
 {
     let items = templates.as_slice();
     'templates: for i in 1..items.len() {
-        if !is_less(items[i - 1].name.as_str(), items[i].name.as_str()) {
+        let before = i - 1;
+        if !is_less(items[before].name.as_str(), items[i].name.as_str()) {
             return false;
         }
     }
