@@ -42,3 +42,10 @@ pub refused_if : (r : Result (Unit {0}) LinkFault) (k : Known) (ts : List Templa
 refused_if (Ok t) k ts none clear h = tt
 refused_if (Err (fault.Refused t at kind)) k ts none clear h = inr (first_none k ts none clear, h)
 refused_if (Err fault.OutOfMemory) k ts none clear h = tt
+
+-- the same of what is known, however it is written
+pub lawful_as : (k m : Known) (ts : List Template) → k ≡ m → IsLawful k ts → IsLawful m ts
+lawful_as k m ts is h = subst (λ (x : Known). IsLawful x ts) is h
+
+pub refused_as : (e : LinkFault) (k m : Known) (ts : List Template) → k ≡ m → RefusedRightly k ts e → RefusedRightly m ts e
+refused_as e k m ts is h = subst (λ (x : Known). RefusedRightly x ts e) is h
