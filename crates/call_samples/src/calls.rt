@@ -6,7 +6,7 @@ use call_form::{CallForm, call_form};
 use call_values::call_assigns;
 use expr_eval::EvalFault;
 use heex_reader::read_template;
-use std::alloc::Global;
+use std::alloc::{AllocError, Global};
 use std::test::Fail;
 
 const ATTRIBUTES: &str = "<.c/>  =>  inner_block=[]
@@ -114,17 +114,19 @@ const RAISES: &str = "<.c a={@none} {7}/>  =>  raises NoAssign
 // The form of the call that nodes begin with.
 fn form_in(alloc: Global, nodes: &Nodes) -> Result<CallForm, Fail> {
     match nodes.as_slice().first() {
-        Some(
-            Node::Place {
-                at: _,
-                place: Place::Call {
-                    template,
-                    attributes,
-                    content,
-                    entries,
-                },
-            },
-        ) => Ok(call_form(alloc, template, attributes, content, entries)?),
+        Some(Node::Place { at: _, place }) => form_at(alloc, place),
+        _ => Err("no place")?,
+    }
+}
+
+fn form_at(alloc: Global, place: &Place) -> Result<CallForm, Fail> {
+    match place {
+        Place::Call {
+            template,
+            attributes,
+            content,
+            entries,
+        } => Ok(call_form(alloc, template, attributes, content, entries)?),
         _ => Err("no call")?,
     }
 }
@@ -184,12 +186,17 @@ fn calls_and_what_they_pass(rt: HostRuntime) -> Result<(), Fail> {
     Ok(())
 }
 
-// A call with an attribute as often as `count` says, each with its number.
+// An attribute as often as `count` says, each time with its number.
+fn write_attributes(out: &mut String, count: usize) -> Result<(), AllocError> {
+    for i in 0..count {
+        write!(out, " a={{{i}}}")?;
+    }
+    Ok(())
+}
+
 fn long_call(alloc: Global, count: usize) -> Result<String, Fail> {
     let mut text = String::from_str(alloc, "<.c")?;
-    for i in 0..count {
-        write!(&mut text, " a={{{i}}}")?;
-    }
+    write_attributes(&mut text, count)?;
     text.push_str("/>")?;
     Ok(text)
 }

@@ -3,7 +3,7 @@ use crate::printed::write_entries;
 use call_values::{Captured, slots_in};
 use expr_core::read_expr;
 use expr_eval::{EvalFault, Variables, eval};
-use std::alloc::Global;
+use std::alloc::{AllocError, Global};
 use std::test::Fail;
 use text_core::{ByKey, OutOfMemory, Text};
 use value_core::{Assigns, SlotValue, Value};
@@ -62,6 +62,12 @@ fn scope(alloc: Global) -> Result<Assigns, OutOfMemory> {
     Ok(assigns)
 }
 
+fn write_slot(out: &mut String, slot: &Captured) -> Result<(), AllocError> {
+    write!(out, "{}", slot.number)?;
+    write_entries(out, "[", &slot.assigns, "]")?;
+    write_entries(out, "[", &slot.variables, "]")
+}
+
 fn printed(alloc: Global, slots: &[Captured]) -> Result<String, Fail> {
     if slots.is_empty() {
         return Ok(String::from_str(alloc, "none")?);
@@ -69,9 +75,8 @@ fn printed(alloc: Global, slots: &[Captured]) -> Result<String, Fail> {
     let mut out = String::new(alloc);
     let mut between = "";
     for slot in slots {
-        write!(&mut out, "{between}{}", slot.number)?;
-        write_entries(&mut out, "[", &slot.assigns, "]")?;
-        write_entries(&mut out, "[", &slot.variables, "]")?;
+        out.push_str(between)?;
+        write_slot(&mut out, slot)?;
         between = " ";
     }
     Ok(out)
