@@ -1,11 +1,11 @@
 -- What a slot body captures, name by name: a name that is read twice is held once.
-use Rattle.std.proofs.Common.{◌≡◌, ℕ, List, [], ◌∷◌, Option, Some, None, refl, sym, ap, ◌∙◌}
+use Rattle.std.proofs.Common.{◌≡◌, ◌<◌, ◌≤◌, ◌+◌, ◌-◌, ℕ, List, [], ◌∷◌, length, get_or, drop, Option, Some, None, refl, sym, ap, ◌∙◌, arith}
 use Rattle.std.specs.Ordering.{ordering_reverse, match_ordering}
 use Rattle.std.specs.declared.cmp.Ordering.{Ordering}
 use Rattle.std.specs.declared.cmp.Ordering.TheVariants.{Less, Equal, Greater}
 use Rattle.std.specs.Cmp.Lexicographic.{nat_list_cmp_total}
 use Rattle.std.proofs.lemmas.Map.Lookups.{exact_bytes}
-use Rattle.text_core.proofs.Keyed.{order}
+use Rattle.text_core.proofs.Keyed.{order, cons_at}
 use Rattle.value_core.specs.Value.{Value, Assigns, no_assigns, assign}
 use Rattle.ast_core.specs.Syntax.{Name, at, var}
 use Rattle.ast_core.specs.Reads.{with_name, assigns_in, variables_in}
@@ -91,3 +91,12 @@ pub variables_picked : (env : Env) (ns : List Name) → captured_variables env n
 variables_picked env [] = refl
 variables_picked env (at k ∷ ns) = variables_picked env ns
 variables_picked env (var k ∷ ns) = ap (with_option k (lookup k env.variables)) (variables_picked env ns) ∙ sym (picked_with env.variables k (variables_in ns))
+
+-- ---- names from one on
+
+pub picked_at : (as' : Assigns) (ks : List (List ℕ)) (i : ℕ) (k : List ℕ) → 0 < i → i ≤ length ks → k ≡ get_or ks (i - 1) k
+    → picked as' (drop (i - 1) ks) ≡ with_option k (lookup k as') (picked as' (drop i ks))
+picked_at as' ks i k some most is =
+    let back : i - 1 + 1 ≡ i = omega arith in
+    let h : i - 1 < length ks = omega arith in
+    ap (picked as') (cons_at ks (i - 1) k h is) ∙ ap (λ (n : ℕ). with_option k (lookup k as') (picked as' (drop n ks))) back
