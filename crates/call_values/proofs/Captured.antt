@@ -1,5 +1,5 @@
 -- Slot values, and the entries that hold them.
-use Rattle.std.proofs.Common.{◌≡◌, ℕ, List, Some, None, refl, sym, ap, ◌∙◌}
+use Rattle.std.proofs.Common.{◌≡◌, ℕ, List, Bool, true, false, Some, None, if◌then◌else◌, sym, ap, ◌∙◌}
 use Rattle.std.specs.Prelude.{codes}
 use Rattle.value_core.specs.Value as model
 use Rattle.value_core.specs.Value.{Assigns, slot}
@@ -20,8 +20,11 @@ slot_captured f (slot_body n p ns) env is =
     ∙ ap (slot n (captured_assigns env names)) (ap (picked env.variables) is.variables ∙ sym (variables_picked env names))
 
 -- content that is none, and content that is one entry
+abbrev content_of : Env → Body → Bool → model.Values
+content_of env b blank = if blank then model.no_values else model.value (model.map_of (model.assign (codes "inner_block") (slot_value env b) model.no_assigns)) model.no_values
+
 pub content_none : (b : Body) (env : Env) → IsContent None b → content_entries env b ≡ model.no_values
-content_none (slot_body n p ns) env blank = rw blank refl
+content_none (slot_body n p ns) env blank = ap (content_of env (slot_body n p ns)) blank
 
 pub content_some : (f : SlotForm) (b : Body) (env : Env) → IsContent (Some f) b → content_entries env b ≡ model.value (model.map_of (model.assign (codes "inner_block") (slot_value env b) model.no_assigns)) model.no_values
-content_some f (slot_body n p ns) env is = rw (is.0) refl
+content_some f (slot_body n p ns) env is = ap (content_of env (slot_body n p ns)) is.0

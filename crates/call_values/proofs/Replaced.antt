@@ -34,6 +34,13 @@ first : {T : Type 0} (k : List ℕ) (v : T) (es : List (KeyValue T)) → is_befo
 first k v [] h = refl
 first k v (e ∷ es) h = ap (λ (o : Ordering). match_ordering o (entry k v ∷ e ∷ es) (entry k v ∷ es) (e ∷ with_key k v es)) (less_of (order k e.key) h)
 
+-- what is left, by whether the first entry is the key's; and what a key goes before, over or behind
+abbrev left_after : {T : Type 0} → List ℕ → KeyValue T → List (KeyValue T) → Bool → List (KeyValue T)
+left_after k e es b = if b then es else e ∷ without_key k es
+
+abbrev placed : {T : Type 0} → List ℕ → T → KeyValue T → List (KeyValue T) → Ordering → List (KeyValue T)
+placed k v e es o = match_ordering o (entry k v ∷ e ∷ es) (entry k v ∷ es) (e ∷ with_key k v es)
+
 pub replaced : {T : Type 0} (k : List ℕ) (v : T) (es : List (KeyValue T)) → Ascending es → with_key k v (without_key k es) ≡ with_key k v es
 replaced k v [] h = refl
 replaced {T} k v (e ∷ es) h = by (order k e.key) refl (replaced k v es p.1)
@@ -41,19 +48,14 @@ replaced {T} k v (e ∷ es) h = by (order k e.key) refl (replaced k v es p.1)
     p : (is_before e.key (keys es) ≡ true) × (ascend (keys es) ≡ true)
     p = both_of (is_before e.key (keys es)) (ascend (keys es)) h
 
-    left : Bool → List (KeyValue T)
-    left b = if b then es else e ∷ without_key k es
-
-    put : Ordering → List (KeyValue T) → List (KeyValue T)
-    put o l = match_ordering o (entry k v ∷ e ∷ l) (entry k v ∷ l) (e ∷ with_key k v l)
-
-    by : (o : Ordering) → order k e.key ≡ o → with_key k v (without_key k es) ≡ with_key k v es → with_key k v (left (bytes_eq k e.key)) ≡ put (order k e.key) es
+    by : (o : Ordering) → order k e.key ≡ o → with_key k v (without_key k es) ≡ with_key k v es
+        → with_key k v (left_after k e es (bytes_eq k e.key)) ≡ placed k v e es (order k e.key)
     by Less is rest =
-        ap (λ (b : Bool). with_key k v (left b)) (unequal k e.key Less is refl) ∙ ap (λ (o : Ordering). put o (without_key k es)) is
-        ∙ ap (λ (l : List (KeyValue T)). entry k v ∷ e ∷ l) (absent k es (before_rest k e.key es (ap is_lt is) p.0) p.1) ∙ sym (ap (λ (o : Ordering). put o es) is)
+        ap (λ (b : Bool). with_key k v (left_after k e es b)) (unequal k e.key Less is refl) ∙ ap (placed k v e (without_key k es)) is
+        ∙ ap (λ (l : List (KeyValue T)). entry k v ∷ e ∷ l) (absent k es (before_rest k e.key es (ap is_lt is) p.0) p.1) ∙ sym (ap (placed k v e es) is)
     by Equal is rest =
-        ap (λ (b : Bool). with_key k v (left b)) (sym (is_eq-slice_cmp k e.key) ∙ ap is_eq is)
-        ∙ first k v es (ap (λ (l : List ℕ). is_before l (keys es)) (exact_bytes k e.key is) ∙ p.0) ∙ sym (ap (λ (o : Ordering). put o es) is)
+        ap (λ (b : Bool). with_key k v (left_after k e es b)) (sym (is_eq-slice_cmp k e.key) ∙ ap is_eq is)
+        ∙ first k v es (ap (λ (l : List ℕ). is_before l (keys es)) (exact_bytes k e.key is) ∙ p.0) ∙ sym (ap (placed k v e es) is)
     by Greater is rest =
-        ap (λ (b : Bool). with_key k v (left b)) (unequal k e.key Greater is refl) ∙ ap (λ (o : Ordering). put o (without_key k es)) is
-        ∙ ap (λ (l : List (KeyValue T)). e ∷ l) rest ∙ sym (ap (λ (o : Ordering). put o es) is)
+        ap (λ (b : Bool). with_key k v (left_after k e es b)) (unequal k e.key Greater is refl) ∙ ap (placed k v e (without_key k es)) is
+        ∙ ap (λ (l : List (KeyValue T)). e ∷ l) rest ∙ sym (ap (placed k v e es) is)
