@@ -3,7 +3,7 @@ ghost use Rattle.std.specs.Prelude.{◌≡◌, [], map};
 ghost use Rattle.bundle_compile.specs.Parts.{slot_of, slots_plain, template_of, templates_plain};
 
 use crate::parts::{
-    CompiledSlot, CompiledTemplate, count_in_slots, count_in_templates, find_template,
+    CompiledSlot, CompiledTemplate, count_in_slots, count_in_templates, find_slot, find_template,
 };
 use ast_core::Modules;
 use slot_compile::Compiled;
@@ -65,7 +65,7 @@ impl CompiledBundle {
     pub fn slot(&self, number: u64) -> Option<&CompiledSlot>
         ensures { MatchOption result ((site_in self.now).has_body number ≡ false) (λ slot. ((site_in self.now).has_body number ≡ true) × (slot_of slot.now ≡ (site_in self.now).body number)) }
     {
-        self.slots.as_slice().get(number as usize)
+        find_slot(self.slots.as_slice(), number)
     }
 
     /// How many slot bodies it has. Their numbers are those below.

@@ -1,5 +1,5 @@
 //! What a compiled bundle is made of.
-ghost use Rattle.std.specs.Prelude.{◌≡◌, IfOk, MatchOption, map, sum};
+ghost use Rattle.std.specs.Prelude.{◌≡◌, IfOk, MatchOption, None, Some, map, slice_get, sum};
 ghost use Rattle.ast_core.specs.Syntax.{no_nodes};
 ghost use Rattle.bundle_compile.specs.Parts.{slot_of, template_of};
 ghost use Rattle.bundle_compile.specs.Places.{slot_places, template_places};
@@ -37,6 +37,18 @@ pub(crate) fn find_template<'a>(
         }
     }
     None
+}
+
+/// The slot body at the place of a number.
+pub(crate) fn find_slot(slots: &[CompiledSlot], number: u64) -> Option<&CompiledSlot>
+    ensures { MatchOption result (slice_get slots.now number ≡ None) (λ slot. slice_get slots.now number ≡ Some slot.now) }
+{
+    let place = number as usize;
+    if place < slots.len() {
+        Some(&slots[place])
+    } else {
+        None
+    }
 }
 
 /// How many places templates have together.

@@ -47,6 +47,7 @@ fn first_text(compiled: &Compiled) -> &str {
 }
 
 const CARD: (&str, &str) = ("card", "card {render_slot(@inner_block)}{@a}");
+
 const PAGE: (&str, &str) = ("page", "page <.card>{@b}<:top>{@c}</:top></.card>");
 
 fn card_and_page(alloc: Global) -> Result<CompiledBundle, Fail> {
@@ -85,7 +86,12 @@ fn slot_bodies_by_their_numbers(rt: HostRuntime) -> Result<(), Fail> {
     let alloc = rt.alloc();
     let bundle = card_and_page(alloc)?;
     assert_eq!(rt; bundle.slots(), 2);
-    for (number, wanted) in [(0, "in "), (1, "top "), (2, "none"), (18446744073709551615, "none")] {
+    for (number, wanted) in [
+        (0, "in "),
+        (1, "top "),
+        (2, "none"),
+        (18446744073709551615, "none"),
+    ] {
         let got = match bundle.slot(number) {
             Some(slot) => {
                 assert!(rt; matches!(&slot.pattern, Some(Pattern::Name(_))));
@@ -117,7 +123,10 @@ const LIVE: &str = "<.live_component module={Counter} id=\"a\"/>";
 fn bundles_that_are_not_compiled(rt: HostRuntime) -> Result<(), Fail> {
     let alloc = rt.alloc();
     let live = ("live", LIVE);
-    let inside = ("inside", "<.card><%= for {id, x} <- @streams.rows do %>x<% end %></.card>");
+    let inside = (
+        "inside",
+        "<.card><%= for {id, x} <- @streams.rows do %>x<% end %></.card>",
+    );
     for (templates, bodies, wanted) in [
         ([CARD, PAGE, live], ["x"], "live"),
         ([CARD, inside, live], ["x"], "inside"),

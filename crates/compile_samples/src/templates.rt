@@ -58,7 +58,8 @@ fn bodies(rt: HostRuntime) -> Result<(), Fail> {
 }
 
 // A choice of rows with a case, and a text, for each of a list; and then the case again.
-const NESTED: &str = "<%= for y <- @ys do %><%= if @a do %><%= for x <- @xs do %>{x}{y}{@a}<% end %><%= case @v do %><% \"a\" -> %>x<% n -> %>{n}<% end %><% else %>y<% end %><% end %><%= case @v do %><% \"a\" -> %>x<% n -> %>{n}<% end %>";
+const NESTED: &str =
+    "<%= for y <- @ys do %><%= if @a do %><%= for x <- @xs do %>{x}{y}{@a}<% end %><%= case @v do %><% \"a\" -> %>x<% n -> %>{n}<% end %><% else %>y<% end %><% end %><%= case @v do %><% \"a\" -> %>x<% n -> %>{n}<% end %>";
 
 #[test]
 fn bodies_inside_bodies(rt: HostRuntime) -> Result<(), Fail> {

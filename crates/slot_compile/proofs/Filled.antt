@@ -113,8 +113,8 @@ places_filled s k (p ∷ ps) [] is h = absurd (not_none (numbered_at k p) (numbe
 places_filled s k (p ∷ ps) (d ∷ ds) is h =
     let rest : List Numbered = numbered_from (k + length (bodies_at p)) ps in (
       is_place s d p
-      (subst (λ (n : Numbered). IsFilled s n p) (sym (first_is (numbered d) (numbered_at k p) (map numbered ds) rest is))
-      (place_filled s k p (stands_left s k (bodies_at p) (inside_places ps) h))),
+          (subst (λ (n : Numbered). IsFilled s n p) (sym (first_is (numbered d) (numbered_at k p) (map numbered ds) rest is))
+          (place_filled s k p (stands_left s k (bodies_at p) (inside_places ps) h))),
       places_filled s (k + length (bodies_at p)) ps ds (rest_is (numbered d) (numbered_at k p) (map numbered ds) rest is)
-      (stands_right s k (bodies_at p) (inside_places ps) h),
+          (stands_right s k (bodies_at p) (inside_places ps) h),
     )
