@@ -125,7 +125,7 @@ fn bundles_that_are_not_compiled(rt: HostRuntime) -> Result<(), Fail> {
     let live = ("live", LIVE);
     let inside = (
         "inside",
-        "<.card><%= for {id, x} <- @streams.rows do %>x<% end %></.card>",
+        "<.card><:top><.live_component module={C} id=\"a\"/></:top></.card>",
     );
     for (templates, bodies, wanted) in [
         ([CARD, PAGE, live], ["x"], "live"),
