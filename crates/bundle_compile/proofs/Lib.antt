@@ -1,3 +1,5 @@
 pub mod Gathered
+pub mod Linked
 pub mod Numbered
+pub mod Parted
 pub mod Plain

@@ -1,8 +1,9 @@
 -- Slot bodies with the numbers of their order.
-use Rattle.std.proofs.Common.{◌≡◌, ℕ, zero, suc, ◌+◌, List, [], ◌∷◌, length, map, sum, slice_get, Bool, true, false, Option, Some, None, if◌then◌else◌, refl, sym, ap, ◌∙◌, arith}
+use Rattle.std.proofs.Common.{◌≡◌, ℕ, zero, suc, ◌+◌, List, [], ◌∷◌, length, map, sum, slice_get, Bool, true, false, Option, Some, None, option_map, if◌then◌else◌, refl, sym, ap, ◌∙◌, arith}
 use Rattle.std.specs.Prelude.{nat_lt}
 use Rattle.std.proofs.lemmas.Bool.{eq-eqb, ne_eqb, lt-ltb, le-ltb}
 use Rattle.std.proofs.lemmas.Bool.Decides.{nat_tests}
+use Rattle.std.proofs.lemmas.Option.{slice_get_within, slice_get-map}
 use Rattle.ast_core.specs.Syntax.{Body, slot_body}
 use Rattle.doc_model.specs.Bundle.{body_in, has_body_in}
 use Rattle.doc_model.specs.Scopes.{SlotBody}
@@ -43,6 +44,30 @@ body_number (b ∷ bs) k zero c h =
 body_number (b ∷ bs) k (suc n) c h =
     ap (λ t. if t then b else body_in (with_numbers (suc k) bs) (k + suc n)) (ne_eqb (k + suc n) k (λ e. omega arith))
     ∙ ap (body_in (with_numbers (suc k) bs)) (one_on k n) ∙ body_number bs (suc k) n c h
+
+zero_on : (n : ℕ) → n ≡ 0 + n
+zero_on n = omega arith
+
+past : {X : Type 0} (xs : List X) (n : ℕ) → slice_get xs n ≡ None → nat_lt n (length xs) ≡ false
+past [] n h = le-ltb n 0 (omega arith)
+past (x ∷ xs) zero h = absurd (cc)
+past (x ∷ xs) (suc n) h = sym (one_more n (length xs)) ∙ past xs n h
+
+-- the numbers from 0 on
+pub has_at : (bs : List SlotBody) (n : ℕ) → has_body_in (with_numbers 0 bs) n ≡ nat_lt n (length bs)
+has_at bs n = ap (has_body_in (with_numbers 0 bs)) (zero_on n) ∙ has_number bs 0 n
+
+-- a number at which nothing stands, and one of a slot body
+pub none_there : {X : Type 0} (v : X → SlotBody) (xs : List X) (n : ℕ) → slice_get xs n ≡ None → has_body_in (with_numbers 0 (map v xs)) n ≡ false
+none_there v xs n h = has_at (map v xs) n ∙ past (map v xs) n (slice_get-map v xs n ∙ ap (option_map v) h)
+
+pub one_there : {X : Type 0} (v : X → SlotBody) (xs : List X) (n : ℕ) (x : X) → slice_get xs n ≡ Some x
+    → (has_body_in (with_numbers 0 (map v xs)) n ≡ true) × (v x ≡ body_in (with_numbers 0 (map v xs)) n)
+one_there v xs n x h =
+    let at : slice_get (map v xs) n ≡ Some (v x) = slice_get-map v xs n ∙ ap (option_map v) h in (
+      has_at (map v xs) n ∙ lt-ltb n (length (map v xs)) (slice_get_within (map v xs) n (v x) at),
+      sym (ap (body_in (with_numbers 0 (map v xs))) (zero_on n) ∙ body_number (map v xs) 0 n (v x) at),
+    )
 
 -- how many places they have
 pub places_numbered : (bs : List SlotBody) (k : ℕ) → map body_places (with_numbers k bs) ≡ map slot_places bs
