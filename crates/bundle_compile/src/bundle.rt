@@ -1,5 +1,5 @@
 //! Compiled bundles.
-ghost use Rattle.std.specs.Prelude.{◌≡◌, [], map};
+ghost use Rattle.std.specs.Prelude.{◌≡◌, [], map, true};
 ghost use Rattle.bundle_compile.specs.Parts.{slot_of, slots_plain, template_of, templates_plain};
 
 use crate::parts::{
@@ -23,7 +23,7 @@ pub struct CompiledBundle {
 }
 
 impl CompiledBundle {
-    ghost use Rattle.std.specs.Prelude.{◌≡◌, ◌++◌, ℕ, List, [], IfOk, MatchOption, nat_lt, map};
+    ghost use Rattle.std.specs.Prelude.{◌≡◌, ℕ, List, [], IfOk, MatchOption, false, map, nat_lt, true};
     ghost use Rattle.bundle_compile.specs.Parts.{slot_of, slots_plain, template_of, templates_plain};
     ghost use Rattle.bundle_compile.specs.Places.{bundle_places};
     ghost use Rattle.bundle_compile.specs.Site.{linked_in, site_in};

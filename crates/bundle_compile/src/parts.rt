@@ -1,9 +1,9 @@
 //! What a compiled bundle is made of.
-ghost use Rattle.std.specs.Prelude.{◌≡◌, IfOk, MatchOption, None, Some, map, slice_get, sum};
+ghost use Rattle.std.specs.Prelude.{◌≡◌, IfOk, MatchOption, false, map, sum, true};
 ghost use Rattle.ast_core.specs.Syntax.{no_nodes};
-ghost use Rattle.bundle_compile.specs.Parts.{slot_of, template_of};
+ghost use Rattle.bundle_compile.specs.Parts.{slot_of, template_of, with_numbers};
 ghost use Rattle.bundle_compile.specs.Places.{slot_places, template_places};
-ghost use Rattle.doc_model.specs.Bundle.{template_in};
+ghost use Rattle.doc_model.specs.Bundle.{body_in, has_body_in, template_in};
 ghost use Rattle.slot_compile.specs.Template.{syntax_of};
 
 use ast_core::Pattern;
@@ -39,9 +39,9 @@ pub(crate) fn find_template<'a>(
     None
 }
 
-/// The slot body at the place of a number.
+/// The slot body of a number, which is its place.
 pub(crate) fn find_slot(slots: &[CompiledSlot], number: u64) -> Option<&CompiledSlot>
-    ensures { MatchOption result (slice_get slots.now number ≡ None) (λ slot. slice_get slots.now number ≡ Some slot.now) }
+    ensures { MatchOption result (has_body_in (with_numbers 0 (map slot_of slots.now)) number ≡ false) (λ slot. (has_body_in (with_numbers 0 (map slot_of slots.now)) number ≡ true) × (slot_of slot.now ≡ body_in (with_numbers 0 (map slot_of slots.now)) number)) }
 {
     let place = number as usize;
     if place < slots.len() {
