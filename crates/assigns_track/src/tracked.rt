@@ -2,10 +2,11 @@
 ghost use Rattle.std.specs.Prelude.{◌≡◌, ◌↔◌, ◌||◌, ℕ, List, [], None, false, IfOk, OnOk, OnErr, option_map};
 ghost use Rattle.std.specs.Option.{option_copied};
 ghost use Rattle.std.specs.Str.{bytes_eq};
-ghost use Rattle.text_core.specs.Keyed.{with_key, without_key};
+ghost use Rattle.text_core.specs.Keyed.{lookup, with_key, without_key};
 ghost use Rattle.value_core.specs.View.{view};
 ghost use Rattle.assigns_track.specs.Track.{present_of, settled_of, was_assigned, differ};
 
+use crate::notes::{note_absent, notes_of};
 use std::alloc::Global;
 use text_core::{ByKey, OutOfMemory, Text};
 use value_core::{Assigns, Value, copy, same};
@@ -15,7 +16,7 @@ use value_core::{Assigns, Value, copy, same};
 pub struct Tracked {
     alloc: Global,
     present: Assigns,
-    // What each name assigned since the last settling had then, if anything.
+    // What a name had when last settled, if anything: of each name assigned since then, and maybe of others.
     before: ByKey<Option<Value>>,
 }
 
@@ -31,6 +32,25 @@ impl Tracked {
             present: ByKey::new(alloc),
             before: ByKey::new(alloc),
         }
+    }
+
+    /// Assigns that had these values when last settled, and have those now. A name of one set alone has come or
+    /// vanished since. No value is copied.
+    pub fn between(
+        alloc: Global,
+        settled: Assigns,
+        present: Assigns,
+    ) -> Result<Tracked, OutOfMemory>
+        ensures present { IfOk result (λ t. t.present ≡ present) }
+        ensures settled { IfOk result (λ t. (n : List ℕ) → settled_of t n ≡ option_map view (lookup n settled)) }
+    {
+        let mut before = notes_of(alloc, settled)?;
+        note_absent(alloc, &mut before, &present)?;
+        Ok(Tracked {
+            alloc,
+            present,
+            before,
+        })
     }
 
     /// The present values.
@@ -100,6 +120,18 @@ impl Tracked {
         ensures assigned { (n : List ℕ) → was_assigned self.new n ≡ false }
     {
         self.before = ByKey::new(self.alloc);
+    }
+
+    /// The present values, given out.
+    pub fn into_assigns(self) -> Assigns
+        ensures { result ≡ self.present }
+    {
+        let Tracked {
+            alloc: _alloc,
+            present,
+            before: _before,
+        } = self;
+        present
     }
 
     // A copy of the present value of a name.

@@ -2,8 +2,8 @@
 use assigns_track::Tracked;
 use std::alloc::Global;
 use std::test::Fail;
-use text_core::OutOfMemory;
-use value_core::Value;
+use text_core::{ByKey, OutOfMemory, Text};
+use value_core::{Assigns, Value};
 
 // Assigns each number to `n` in turn, and settles at each 0.
 fn tracked_by(alloc: Global, steps: &[i64]) -> Result<Tracked, OutOfMemory> {
@@ -53,5 +53,37 @@ fn an_assign_taken_back(rt: HostRuntime) -> Result<(), Fail> {
     tracked.assign("n", Value::Int(1))?;
     assert!(rt; !tracked.changed("n"));
     assert!(rt; tracked.changed("m"));
+    Ok(())
+}
+
+// Names with a number each.
+fn numbered(alloc: Global, entries: &[(&str, i64)]) -> Result<Assigns, OutOfMemory> {
+    let mut assigns = ByKey::new(alloc);
+    for (name, number) in entries {
+        assigns.insert(Text::copy_of(alloc, name)?, Value::Int(*number))?;
+    }
+    Ok(assigns)
+}
+
+#[test]
+fn between_two_sets(rt: HostRuntime) -> Result<(), Fail> {
+    let alloc = rt.alloc();
+    let settled = numbered(alloc, &[("gone", 1), ("kept", 2), ("other", 3)])?;
+    let present = numbered(alloc, &[("kept", 2), ("new", 4), ("other", 5)])?;
+    let tracked = Tracked::between(alloc, settled, present)?;
+    for (name, now, before, changed) in [
+        ("gone", 0, 1, true),
+        ("kept", 2, 2, false),
+        ("new", 4, 0, true),
+        ("other", 5, 3, true),
+        ("never", 0, 0, false),
+    ] {
+        assert_eq!(rt; number(tracked.get(name)), now, "{name}");
+        assert_eq!(rt; number(tracked.old(name)), before, "{name}");
+        assert_eq!(rt; tracked.changed(name), changed, "{name}");
+    }
+    let assigns = tracked.into_assigns();
+    assert_eq!(rt; assigns.len(), 3);
+    assert_eq!(rt; number(assigns.get("new")), 4);
     Ok(())
 }

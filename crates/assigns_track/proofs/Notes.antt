@@ -1,0 +1,98 @@
+-- What is noted of names, a name at a time.
+use Rattle.std.proofs.Common.{◌≡◌, ℕ, List, [], ◌∷◌, ◌++◌, Option, Some, None, option_map, Bool, true, false, if◌then◌else◌, refl, sym, ap, ◌∙◌, subst}
+use Rattle.std.specs.Str.{bytes_eq}
+use Rattle.std.specs.Option.{is_some, option_or}
+use Rattle.std.proofs.lemmas.Slice.Eq.{bytes_eq-Decides}
+use Rattle.text_core.specs.declared.by_key.KeyValue.{KeyValue}
+use Rattle.text_core.specs.Keyed.{lookup, with_key}
+use Rattle.text_core.proofs.Keyed.{lookup_set, lookup_other}
+use Rattle.value_core.specs.Value as model
+use Rattle.value_core.specs.View.{view}
+use Rattle.value_core.specs.declared.value.Value.{Value}
+use Rattle.assigns_track.specs.Track.{noted_or}
+
+-- what entries with one more at the end give
+lookup-snoc : {T : Type 0} (n : List ℕ) (es : List (KeyValue T)) (e : KeyValue T)
+    → lookup n (es ++ e ∷ []) ≡ option_or (lookup n es) (if bytes_eq n e.key then Some e.value else None)
+lookup-snoc n [] e = refl
+lookup-snoc {T} n (x ∷ es) e = by (bytes_eq n x.key) (lookup-snoc n es e)
+  where
+    last : Option T
+    last = if bytes_eq n e.key then Some e.value else None
+
+    by : (b : Bool) → lookup n (es ++ e ∷ []) ≡ option_or (lookup n es) last
+        → (if b then Some x.value else lookup n (es ++ e ∷ [])) ≡ option_or (if b then Some x.value else lookup n es) last
+    by true rest = refl
+    by false rest = rest
+
+module _ (n k : List ℕ) (v : Value) (notes : List (KeyValue (Option Value))) where
+  -- the last of the entries gives what its note gives
+  last_noted : (found : Option Value)
+      → option_or (option_map Some found) (lookup n (with_key k (Some v) notes)) ≡ option_or (option_map Some (option_or found (if bytes_eq n k then Some v else None))) (lookup n notes)
+  last_noted (Some x) = refl
+  last_noted None = by (bytes_eq n k) refl
+    where
+      by : (b : Bool) → bytes_eq n k ≡ b → lookup n (with_key k (Some v) notes) ≡ option_or (option_map Some (if b then Some v else None)) (lookup n notes)
+      by true is = subst (λ m. lookup m (with_key k (Some v) notes) ≡ Some (Some v)) (sym ((bytes_eq-Decides n k).0 is)) (lookup_set k (Some v) notes)
+      by false is = lookup_other n k (Some v) notes is
+
+-- the last entry goes from the rest to the notes
+pub noted_last : (n : List ℕ) (all rest : List (KeyValue Value)) (e : KeyValue Value) (notes : List (KeyValue (Option Value))) → all ≡ rest ++ e ∷ []
+    → option_or (option_map Some (lookup n rest)) (lookup n (with_key e.key (Some e.value) notes)) ≡ option_or (option_map Some (lookup n all)) (lookup n notes)
+noted_last n all rest e notes h =
+    last_noted n e.key e.value notes (lookup n rest)
+    ∙ ap (λ (o : Option Value). option_or (option_map Some o) (lookup n notes)) (sym (ap (lookup n) h ∙ lookup-snoc n rest e))
+
+-- a name of which something is noted keeps its note
+pub kept_note : (n k : List ℕ) (notes : List (KeyValue (Option Value))) → is_some (lookup k notes) ≡ true
+    → lookup n notes ≡ option_or (lookup n notes) (if bytes_eq n k then Some None else None)
+kept_note n k notes h = by (bytes_eq n k) refl
+  where
+    noted : (o : Option (Option Value)) → is_some o ≡ true → o ≡ option_or o (Some None)
+    noted (Some x) h = refl
+    noted None h = cc
+
+    other : (o : Option (Option Value)) → o ≡ option_or o None
+    other (Some x) = refl
+    other None = refl
+
+    by : (b : Bool) → bytes_eq n k ≡ b → lookup n notes ≡ option_or (lookup n notes) (if b then Some None else None)
+    by true is = noted (lookup n notes) (subst (λ m. is_some (lookup m notes) ≡ true) (sym ((bytes_eq-Decides n k).0 is)) h)
+    by false is = other (lookup n notes)
+
+-- and another gets one
+pub new_note : (n k : List ℕ) (notes : List (KeyValue (Option Value))) → is_some (lookup k notes) ≡ false
+    → lookup n (with_key k None notes) ≡ option_or (lookup n notes) (if bytes_eq n k then Some None else None)
+new_note n k notes h = by (bytes_eq n k) refl
+  where
+    absent : (o : Option (Option Value)) → is_some o ≡ false → Some None ≡ option_or o (Some None)
+    absent (Some x) h = cc
+    absent None h = refl
+
+    other : (o : Option (Option Value)) → o ≡ option_or o None
+    other (Some x) = refl
+    other None = refl
+
+    by : (b : Bool) → bytes_eq n k ≡ b → lookup n (with_key k None notes) ≡ option_or (lookup n notes) (if b then Some None else None)
+    by true is = subst (λ m. lookup m (with_key k None notes) ≡ option_or (lookup m notes) (Some None)) (sym ((bytes_eq-Decides n k).0 is))
+        (lookup_set k None notes ∙ absent (lookup k notes) h)
+    by false is = lookup_other n k None notes is ∙ other (lookup n notes)
+
+-- the first of the names to come goes to the notes
+pub goes_to_notes : (b : Bool) (noted : Option (Option Value)) (v : Value) (rest : Option Value)
+    → option_or (option_or noted (if b then Some None else None)) (option_map (λ _. None) rest)
+    ≡ option_or noted (option_map (λ _. None) (if b then Some v else rest))
+goes_to_notes true (Some x) v rest = refl
+goes_to_notes true None v rest = refl
+goes_to_notes false (Some x) v rest = refl
+goes_to_notes false None v rest = refl
+
+none_to_come : (o : Option (Option Value)) → o ≡ option_or o None
+none_to_come (Some x) = refl
+none_to_come None = refl
+
+-- a name that was there had its value, and another had none
+pub had : (settled present : Option Value) → noted_or (option_or (option_map Some settled) (option_map (λ _. None) present)) (option_map view present) ≡ option_map view settled
+had (Some v) present = refl
+had None (Some w) = refl
+had None None = refl
