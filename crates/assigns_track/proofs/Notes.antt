@@ -1,15 +1,19 @@
 -- What is noted of names, a name at a time.
-use Rattle.std.proofs.Common.{◌≡◌, ℕ, List, [], ◌∷◌, ◌++◌, Option, Some, None, option_map, Bool, true, false, if◌then◌else◌, refl, sym, ap, ◌∙◌, subst}
+use Rattle.std.proofs.Common.{◌≡◌, ℕ, ◌+◌, ◌<◌, ◌≤◌, length, get_or, drop, List, [], ◌∷◌, ◌++◌, Option, Some, None, option_map, Bool, true, false, if◌then◌else◌, refl, sym, ap, ◌∙◌, subst}
 use Rattle.std.specs.Str.{bytes_eq}
 use Rattle.std.specs.Option.{is_some, option_or}
+use Rattle.std.proofs.lemmas.List.{drop_all}
 use Rattle.std.proofs.lemmas.Slice.Eq.{bytes_eq-Decides}
 use Rattle.text_core.specs.declared.by_key.KeyValue.{KeyValue}
 use Rattle.text_core.specs.Keyed.{lookup, with_key}
-use Rattle.text_core.proofs.Keyed.{lookup_set, lookup_other}
-use Rattle.value_core.specs.Value as model
+use Rattle.text_core.proofs.Keyed.{lookup_set, lookup_other, lookup_at}
 use Rattle.value_core.specs.View.{view}
 use Rattle.value_core.specs.declared.value.Value.{Value}
 use Rattle.assigns_track.specs.Track.{noted_or}
+
+pub or_none : {T : Type 0} (o : Option T) → option_or o None ≡ o
+or_none (Some x) = refl
+or_none None = refl
 
 -- what entries with one more at the end give
 lookup-snoc : {T : Type 0} (n : List ℕ) (es : List (KeyValue T)) (e : KeyValue T)
@@ -52,13 +56,9 @@ kept_note n k notes h = by (bytes_eq n k) refl
     noted (Some x) h = refl
     noted None h = cc
 
-    other : (o : Option (Option Value)) → o ≡ option_or o None
-    other (Some x) = refl
-    other None = refl
-
     by : (b : Bool) → bytes_eq n k ≡ b → lookup n notes ≡ option_or (lookup n notes) (if b then Some None else None)
     by true is = noted (lookup n notes) (subst (λ m. is_some (lookup m notes) ≡ true) (sym ((bytes_eq-Decides n k).0 is)) h)
-    by false is = other (lookup n notes)
+    by false is = sym (or_none (lookup n notes))
 
 -- and another gets one
 pub new_note : (n k : List ℕ) (notes : List (KeyValue (Option Value))) → is_some (lookup k notes) ≡ false
@@ -69,27 +69,32 @@ new_note n k notes h = by (bytes_eq n k) refl
     absent (Some x) h = cc
     absent None h = refl
 
-    other : (o : Option (Option Value)) → o ≡ option_or o None
-    other (Some x) = refl
-    other None = refl
-
     by : (b : Bool) → bytes_eq n k ≡ b → lookup n (with_key k None notes) ≡ option_or (lookup n notes) (if b then Some None else None)
     by true is = subst (λ m. lookup m (with_key k None notes) ≡ option_or (lookup m notes) (Some None)) (sym ((bytes_eq-Decides n k).0 is))
         (lookup_set k None notes ∙ absent (lookup k notes) h)
-    by false is = lookup_other n k None notes is ∙ other (lookup n notes)
+    by false is = lookup_other n k None notes is ∙ sym (or_none (lookup n notes))
 
--- the first of the names to come goes to the notes
-pub goes_to_notes : (b : Bool) (noted : Option (Option Value)) (v : Value) (rest : Option Value)
-    → option_or (option_or noted (if b then Some None else None)) (option_map (λ _. None) rest)
-    ≡ option_or noted (option_map (λ _. None) (if b then Some v else rest))
-goes_to_notes true (Some x) v rest = refl
-goes_to_notes true None v rest = refl
-goes_to_notes false (Some x) v rest = refl
-goes_to_notes false None v rest = refl
+-- the next of the entries gives what its note gives
+pub next_noted : (n k : List ℕ) (es : List (KeyValue Value)) (i : ℕ) (e : KeyValue Value) (old new : List (KeyValue (Option Value)))
+    → i < length es → e ≡ get_or es i e → k ≡ e.key → lookup n new ≡ option_or (lookup n old) (if bytes_eq n k then Some None else None)
+    → option_or (lookup n new) (option_map (λ _. None) (lookup n (drop (i + 1) es))) ≡ option_or (lookup n old) (option_map (λ _. None) (lookup n (drop i es)))
+next_noted n k es i e old new h is same is_new =
+    ap (λ (o : Option (Option Value)). option_or o (option_map (λ _. None) (lookup n (drop (i + 1) es)))) is_new
+    ∙ goes_over (bytes_eq n k) (lookup n old) (lookup n (drop (i + 1) es))
+    ∙ ap (λ (o : Option Value). option_or (lookup n old) (option_map (λ _. None) o)) (sym (lookup_at n es i e (bytes_eq n k) h is (ap (bytes_eq n) same)))
+  where
+    goes_over : (b : Bool) (noted : Option (Option Value)) (rest : Option Value)
+        → option_or (option_or noted (if b then Some None else None)) (option_map (λ _. None) rest) ≡ option_or noted (option_map (λ _. None) (if b then Some e.value else rest))
+    goes_over true (Some x) rest = refl
+    goes_over true None rest = refl
+    goes_over false (Some x) rest = refl
+    goes_over false None rest = refl
 
-none_to_come : (o : Option (Option Value)) → o ≡ option_or o None
-none_to_come (Some x) = refl
-none_to_come None = refl
+-- behind the last entry all is noted
+pub all_noted : (n : List ℕ) (es : List (KeyValue Value)) (i : ℕ) (notes : List (KeyValue (Option Value))) → length es ≤ i
+    → lookup n notes ≡ option_or (lookup n notes) (option_map (λ _. None) (lookup n (drop i es)))
+all_noted n es i notes past =
+    sym (or_none (lookup n notes)) ∙ ap (λ (l : List (KeyValue Value)). option_or (lookup n notes) (option_map (λ _. None) (lookup n l))) (sym (drop_all i es past))
 
 -- a name that was there had its value, and another had none
 pub had : (settled present : Option Value) → noted_or (option_or (option_map Some settled) (option_map (λ _. None) present)) (option_map view present) ≡ option_map view settled

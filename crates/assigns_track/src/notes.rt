@@ -5,7 +5,7 @@ ghost use Rattle.std.specs.Str.{bytes_eq};
 ghost use Rattle.text_core.specs.Keyed.{lookup};
 
 use std::alloc::Global;
-use text_core::{ByKey, KeyValue, OutOfMemory, Text};
+use text_core::{ByKey, KeyValue, OutOfMemory, Seq, Text};
 use value_core::{Assigns, Value};
 
 /// A note for each name of these assigns: the value that it has. No value is copied.
@@ -13,7 +13,7 @@ pub(crate) fn notes_of(alloc: Global, settled: Assigns) -> Result<ByKey<Option<V
     ensures { IfOk result (λ notes. (n : List ℕ) → lookup n notes ≡ option_map Some (lookup n settled)) }
 {
     let mut notes = ByKey::new(alloc);
-    let mut entries = settled.into_vec();
+    let mut entries = Seq::from_vec(settled.into_vec());
     // From the back, so that each goes to the front.
     'entries: while let Some(KeyValue { key, value }) = entries.pop() {
         notes.insert(key, Some(value))?;
