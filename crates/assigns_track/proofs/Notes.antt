@@ -47,6 +47,18 @@ noted_last n all rest e notes h =
     last_noted n e.key e.value notes (lookup n rest)
     ∙ ap (λ (o : Option Value). option_or (option_map Some o) (lookup n notes)) (sym (ap (lookup n) h ∙ lookup-snoc n rest e))
 
+-- at first nothing is noted, and at the end all is
+pub noted_none : (n : List ℕ) (all entries : List (KeyValue Value)) (notes : List (KeyValue (Option Value))) → entries ≡ all → notes ≡ []
+    → option_or (option_map Some (lookup n entries)) (lookup n notes) ≡ option_map Some (lookup n all)
+noted_none n all entries notes h k =
+    ap (λ (b : List (KeyValue (Option Value))). option_or (option_map Some (lookup n entries)) (lookup n b)) k
+    ∙ or_none (option_map Some (lookup n entries)) ∙ ap (λ (es : List (KeyValue Value)). option_map Some (lookup n es)) h
+
+pub noted_all : (n : List ℕ) (all entries : List (KeyValue Value)) (notes : List (KeyValue (Option Value))) → entries ≡ []
+    → option_or (option_map Some (lookup n entries)) (lookup n notes) ≡ option_map Some (lookup n all) → lookup n notes ≡ option_map Some (lookup n all)
+noted_all n all entries notes h is =
+    sym (ap (λ (es : List (KeyValue Value)). option_or (option_map Some (lookup n es)) (lookup n notes)) h) ∙ is
+
 -- a name of which something is noted keeps its note
 pub kept_note : (n k : List ℕ) (notes : List (KeyValue (Option Value))) → is_some (lookup k notes) ≡ true
     → lookup n notes ≡ option_or (lookup n notes) (if bytes_eq n k then Some None else None)
