@@ -108,8 +108,14 @@ pub all_noted : (n : List ℕ) (es : List (KeyValue Value)) (i : ℕ) (notes : L
 all_noted n es i notes past =
     sym (or_none (lookup n notes)) ∙ ap (λ (l : List (KeyValue Value)). option_or (lookup n notes) (option_map (λ _. None) (lookup n l))) (sym (drop_all i es past))
 
--- a name that was there had its value, and another had none
-pub had : (settled present : Option Value) → noted_or (option_or (option_map Some settled) (option_map (λ _. None) present)) (option_map view present) ≡ option_map view settled
-had (Some v) present = refl
-had None (Some w) = refl
-had None None = refl
+-- a name of one set had its value there, and another had none
+pub between_sets : (n : List ℕ) (settled present : List (KeyValue Value)) (first all : List (KeyValue (Option Value))) → lookup n first ≡ option_map Some (lookup n settled)
+    → lookup n all ≡ option_or (lookup n first) (option_map (λ _. None) (lookup n present)) → noted_or (lookup n all) (option_map view (lookup n present)) ≡ option_map view (lookup n settled)
+between_sets n settled present first all h k =
+    ap (λ (o : Option (Option Value)). noted_or o (option_map view (lookup n present))) (k ∙ ap (λ (o : Option (Option Value)). option_or o (option_map (λ _. None) (lookup n present))) h)
+    ∙ had (lookup n settled) (lookup n present)
+  where
+    had : (old now : Option Value) → noted_or (option_or (option_map Some old) (option_map (λ _. None) now)) (option_map view now) ≡ option_map view old
+    had (Some v) now = refl
+    had None (Some w) = refl
+    had None None = refl
