@@ -10,3 +10,6 @@ pub mod Added
 pub mod Numbered
 pub mod Settling
 pub mod Bare
+pub mod Kept
+pub mod Bundle
+pub mod Refusing

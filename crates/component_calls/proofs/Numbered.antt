@@ -1,5 +1,5 @@
 -- Nodes, places, clauses, entries and bodies with their numbers, one level at a time.
-use Rattle.std.proofs.Common.{◌≡◌, ℕ, ◌+◌, List, ◌∷◌, length, Bool, true, false, if◌then◌else◌, Option, option_map, refl, sym, ap, ◌∙◌, length-append}
+use Rattle.std.proofs.Common.{◌≡◌, ℕ, ◌+◌, List, ◌∷◌, length, Bool, true, false, if◌then◌else◌, Option, option_map, refl, sym, ap, ◌∙◌, length-append, arith}
 use Rattle.ast_core.specs.declared.expr.Expr.{Expr}
 use Rattle.ast_core.specs.declared.pattern.Pattern.{Pattern}
 use Rattle.ast_core.specs.declared.node.Location.{Location}
@@ -9,6 +9,9 @@ use Rattle.ast_core.specs.declared.node.Place.{Place}
 use Rattle.ast_core.specs.declared.node.Clause.{Clause, out-Clause}
 use Rattle.ast_core.specs.declared.node.Entry.{Entry, out-Entry}
 use Rattle.ast_core.specs.declared.node.SlotBody.{SlotBody, out-SlotBody}
+use Rattle.ast_core.specs.declared.node.Generator.{Generator}
+use Rattle.ast_core.specs.declared.node.Node.TheViews.{roll-Clause, roll-Entry, roll-SlotBody}
+use Rattle.ast_core.specs.declared.node.Node.TheFolds.{fold-roll-Clause, fold-roll-Entry, fold-roll-SlotBody}
 use Rattle.ast_core.specs.declared.node.Node.TheVariants as form
 use Rattle.ast_core.specs.declared.node.Place.TheVariants as place
 use Rattle.ast_core.specs.Syntax as model
@@ -16,9 +19,10 @@ use Rattle.ast_core.specs.Syntax.{Body, slot_body, Nodes}
 use Rattle.ast_core.specs.Blank.{is_blank}
 use Rattle.ast_core.specs.ExprView.{expr_view, or_nil}
 use Rattle.ast_core.specs.PatternView.{pattern_view}
-use Rattle.ast_core.specs.NodeView.{attributes_view, location_of, node_view, nodes_view, place_view, clause_view, clauses_view, entry_view, entries_view, body_view}
+use Rattle.ast_core.specs.NodeView.{SeenEntry, attributes_view, body_step, clause_step, entry_step, generator_view, location_of, node_step, or_any, place_step, node_view, nodes_view, place_view, clause_view, clauses_view, entry_view, entries_view, body_view}
 use Rattle.component_calls.specs.Numbers.{bodies_at, bodies_in, bodies_of, body_bodies, clause_bodies, content_bodies, entry_bodies, inner_bodies, number_body, number_clauses, number_content, number_entries, number_inner, number_node, number_nodes, number_place, numbered_body, numbered_content, numbered_in, numbered_inner}
-use Rattle.component_calls.proofs.Seen.{seen_text, seen_element, seen_place, seen_put, seen_if, seen_case, seen_for, seen_call, seen_live, seen_slot, seen_stream, seen_clause, seen_body, seen_entry}
+use Rattle.component_calls.specs.Steps.{number_entry}
+use Rattle.component_calls.proofs.Seen.{entry_by, seen_text, seen_element, seen_place, seen_put, seen_if, seen_case, seen_for, seen_call, seen_live, seen_slot, seen_stream, seen_clause, seen_body, seen_entry}
 
 same2 : {A B D : Type 0} (f : A → B → D) (a a' : A) (b b' : B) → a ≡ a' → b ≡ b' → f a b ≡ f a' b'
 same2 f a a' b b' e g = ap (λ (x : A). f x b) e ∙ ap (f a') g
@@ -195,3 +199,69 @@ opened k (slot_body n p ns) = refl
 
 pub body_opens : (k : ℕ) (b : SlotBody) → numbered_body k (body_view b) ≡ number_body k (body_view b) ∷ numbered_in (k + 1) (nodes_view (out-SlotBody b).nodes)
 body_opens k b = opened k (body_view b) ∙ ap (λ (ns : Nodes). number_body k (body_view b) ∷ numbered_in (k + 1) ns) (nodes_seen b)
+
+-- a clause, a body and an entry that are made
+seen_new_clause : (p : Pattern) (ns : List Node) → clause_view (roll-Clause (record { pattern = p; body = ns })) ≡ (pattern_view p, nodes_view ns)
+seen_new_clause p ns = fold-roll-Clause model.Node model.Place (model.Pattern × model.Nodes) SeenEntry model.Body node_step place_step clause_step entry_step body_step (record { pattern = p; body = ns })
+
+seen_new_body : (n : ℕ) (p : Option Pattern) (ns : List Node) → body_view (roll-SlotBody (record { number = n; pattern = p; nodes = ns })) ≡ slot_body n (or_any p) (nodes_view ns)
+seen_new_body n p ns = fold-roll-SlotBody model.Node model.Place (model.Pattern × model.Nodes) SeenEntry model.Body node_step place_step clause_step entry_step body_step (record { number = n; pattern = p; nodes = ns })
+
+seen_new_entry : (l : Location) (s : List ℕ) (g : Option Generator) (e : Option Expr) (xs : List Attribute) (b : SlotBody)
+    → entry_view (roll-Entry (record { at = l; slot = s; generator = g; test = e; attributes = xs; body = b })) ≡ entry_by l s xs (body_view b) (option_map generator_view g) (option_map expr_view e)
+seen_new_entry l s g e xs b =
+    fold-roll-Entry model.Node model.Place (model.Pattern × model.Nodes) SeenEntry model.Body node_step place_step clause_step entry_step body_step (record { at = l; slot = s; generator = g; test = e; attributes = xs; body = b })
+
+pub clause_numbered : (k : ℕ) (c : Clause) (p : Pattern) (ns : List Node) → pattern_view p ≡ pattern_view (out-Clause c).pattern → nodes_view ns ≡ number_nodes k (nodes_view (out-Clause c).body)
+    → clause_view (roll-Clause (record { pattern = p; body = ns })) ≡ ((clause_view c).0, number_nodes k (clause_view c).1)
+clause_numbered k c p ns ep en =
+    seen_new_clause p ns
+    ∙ same2 (λ (q : model.Pattern) (ms : Nodes). pair_of q ms) (pattern_view p) (pattern_view (out-Clause c).pattern) (nodes_view ns) (number_nodes k (nodes_view (out-Clause c).body)) ep en
+    ∙ sym (ap (λ (s : model.Pattern × Nodes). pair_of s.0 (number_nodes k s.1)) (seen_clause c))
+  where
+    abbrev pair_of : model.Pattern → Nodes → model.Pattern × Nodes
+    pair_of q ms = (q, ms)
+
+pub clause_size_is : (c : Clause) → length (bodies_in (nodes_view (out-Clause c).body)) ≡ length (bodies_in (clause_view c).1)
+clause_size_is c = ap (λ (s : model.Pattern × Nodes). length (bodies_in s.1)) (sym (seen_clause c))
+
+numbered_by : (k : ℕ) (b : SlotBody) → number_body k (body_view b) ≡ slot_body k (or_any (out-SlotBody b).pattern) (number_nodes (k + 1) (nodes_view (out-SlotBody b).nodes))
+numbered_by k b = ap (number_body k) (seen_body b)
+
+pub body_numbered : (k i : ℕ) → i ≡ k → (m : ℕ) (b : SlotBody) (p : Option Pattern) (ns : List Node) → m ≡ k + 1 → or_any p ≡ or_any (out-SlotBody b).pattern → nodes_view ns ≡ number_nodes m (nodes_view (out-SlotBody b).nodes)
+    → body_view (roll-SlotBody (record { number = i; pattern = p; nodes = ns })) ≡ number_body k (body_view b)
+body_numbered k i ei m b p ns em ep en =
+    seen_new_body i p ns
+    ∙ ap (λ (j : ℕ). slot_body j (or_any p) (nodes_view ns)) ei
+    ∙ same2 (λ (q : model.Pattern) (ms : Nodes). slot_body k q ms) (or_any p) (or_any (out-SlotBody b).pattern) (nodes_view ns) (number_nodes (k + 1) (nodes_view (out-SlotBody b).nodes))
+    ep (en ∙ ap (λ (n : ℕ). number_nodes n (nodes_view (out-SlotBody b).nodes)) em)
+    ∙ sym (numbered_by k b)
+
+pub body_size : (b : SlotBody) → length (body_bodies (body_view b)) ≡ 1 + length (bodies_in (nodes_view (out-SlotBody b).nodes))
+body_size b = ap (λ (c : Body). length (body_bodies c)) (seen_body b) ∙ omega arith
+
+pub inner_numbered : (k : ℕ) (b : SlotBody) (p : Option Pattern) (ns : List Node) → or_any p ≡ or_any (out-SlotBody b).pattern → nodes_view ns ≡ number_nodes k (nodes_view (out-SlotBody b).nodes)
+    → body_view (roll-SlotBody (record { number = 0; pattern = p; nodes = ns })) ≡ number_inner k (body_view b)
+inner_numbered k b p ns ep en =
+    seen_new_body 0 p ns
+    ∙ same2 (λ (q : model.Pattern) (ms : Nodes). slot_body 0 q ms) (or_any p) (or_any (out-SlotBody b).pattern) (nodes_view ns) (number_nodes k (nodes_view (out-SlotBody b).nodes)) ep en
+    ∙ sym (ap (number_inner k) (seen_body b))
+
+pub inner_size : (b : SlotBody) → length (inner_bodies (body_view b)) ≡ length (bodies_in (nodes_view (out-SlotBody b).nodes))
+inner_size b = ap (λ (c : Body). length (inner_bodies c)) (seen_body b)
+
+pub entry_numbered : (k : ℕ) (e : Entry) (s : List ℕ) (g : Option Generator) (t : Option Expr) (xs : List Attribute) (b : SlotBody) → s ≡ (out-Entry e).slot → option_map generator_view g ≡ option_map generator_view (out-Entry e).generator
+    → option_map expr_view t ≡ option_map expr_view (out-Entry e).test → attributes_view xs ≡ attributes_view (out-Entry e).attributes → body_view b ≡ number_body k (body_view (out-Entry e).body)
+    → entry_view (roll-Entry (record { at = (out-Entry e).at; slot = s; generator = g; test = t; attributes = xs; body = b })) ≡ number_entry k (entry_view e)
+entry_numbered k e s g t xs b es eg et ex eb =
+    seen_new_entry (out-Entry e).at s g t xs b
+    ∙ ap (λ (n : List ℕ). by n (attributes_view xs) (body_view b) (option_map generator_view g) (option_map expr_view t)) es
+    ∙ same4 (by (out-Entry e).slot) (attributes_view xs) (attributes_view (out-Entry e).attributes) (body_view b) (number_body k (body_view (out-Entry e).body))
+    (option_map generator_view g) (option_map generator_view (out-Entry e).generator) (option_map expr_view t) (option_map expr_view (out-Entry e).test) ex eb eg et
+    ∙ sym (ap (number_entry k) (seen_entry e))
+  where
+    abbrev by : List ℕ → model.Attributes → Body → Option model.Generator → Option model.Expr → SeenEntry
+    by n ys c h f = record { location = location_of (out-Entry e).at; slot = n; attributes = ys; generator = h; test = f; body = c }
+
+pub entry_size_is : (e : Entry) → length (body_bodies (body_view (out-Entry e).body)) ≡ length (body_bodies (entry_view e).body)
+entry_size_is e = ap (λ (s : SeenEntry). length (body_bodies s.body)) (sym (seen_entry e))

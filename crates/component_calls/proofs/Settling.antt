@@ -46,20 +46,20 @@ some_steps (c ∷ w) h = omega arith
 
 -- a round goes on as long as one likes
 rounds : (g : List (List ℕ)) (a n : ℕ) (w : List ℕ) → IsRound g a w → (v : List ℕ) × IsWay g a v a × (n < length v)
-rounds g a zero w round = (w, (round.1, some_steps w round.0))
+rounds g a zero w round = (w, round.1, some_steps w round.0)
 rounds g a (suc n) w round = more (rounds g a n w round)
   where
     more : (v : List ℕ) × IsWay g a v a × (n < length v) → (v : List ℕ) × IsWay g a v a × (suc n < length v)
-    more (v, (way, long)) =
+    more (v, way, long) =
         let steps : 0 < length w = some_steps w round.0 in
         let sum : length (w ++ v) ≡ length w + length v = length-append w v in
-        (w ++ v, (way_on g a a a w v round.1 way, omega (arith, steps, long, sum)))
+        (w ++ v, way_on g a a a w v round.1 way, omega (arith, steps, long, sum))
 
 pub settled : (g : List (List ℕ)) (n : ℕ) → are_all (settled_at g n) ≡ true → IsAcyclic g
 settled g n h a w round = by (rounds g a n w round)
   where
     by : (v : List ℕ) × IsWay g a v a × (n < length v) → ⊥
-    by (v, (way, long)) = too_long g n a a v (all_at (settled_at g n) a h) way long
+    by (v, way, long) = too_long g n a a v (all_at (settled_at g n) a h) way long
 
 -- the rounds as the code takes them
 pub settled_more : (g : List (List ℕ)) (n : ℕ) (s next : List Bool) → s ≡ settled_at g n → next ≡ next_settled g s → next ≡ settled_at g (n + 1)

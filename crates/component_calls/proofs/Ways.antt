@@ -122,21 +122,21 @@ layer_more g t n = ap (layer_at g t) (add-one n)
 pub layers_more : (g : List (List ℕ)) (t n : ℕ) → layers_below g t (n + 1) ≡ layers_below g t n ++ layer_at g t n ∷ []
 layers_more g t n = ap (layers_below g t) (add-one n)
 
-layers_long : (g : List (List ℕ)) (t m : ℕ) → length (layers_below g t m) ≡ m
+pub layers_long : (g : List (List ℕ)) (t m : ℕ) → length (layers_below g t m) ≡ m
 layers_long g t zero = refl
 layers_long g t (suc m) = length-append (layers_below g t m) (layer_at g t m ∷ []) ∙ ap (λ n. n + 1) (layers_long g t m) ∙ add-one m
 
 -- the layers, place by place
 pub layers_get : (g : List (List ℕ)) (t m n : ℕ) → n < m → get_or (layers_below g t m) n [] ≡ layer_at g t n
 layers_get g t zero n h = absurd (omega arith)
-layers_get g t (suc m) n h = by (eq-or-lt_of_le (le_of_suc-le-suc h))
+layers_get g t (suc m) n h = by (eq-or-lt_of_le (le_of_suc-le-suc h)) (layers_get g t m n)
   where
-    by : (n ≡ m) ⊎ (n < m) → get_or (layers_below g t (suc m)) n [] ≡ layer_at g t n
-    by (inl e) =
+    by : (n ≡ m) ⊎ (n < m) → (n < m → get_or (layers_below g t m) n [] ≡ layer_at g t n) → get_or (layers_below g t (suc m)) n [] ≡ layer_at g t n
+    by (inl e) rest =
         let long : length (layers_below g t m) ≡ m = layers_long g t m in
         let at : n ≡ length (layers_below g t m) + 0 = omega (arith, long, e) in
         ap (λ (i : ℕ). get_or (layers_below g t (suc m)) i []) at ∙ get_or-append-add (layers_below g t m) (layer_at g t m ∷ []) 0 [] ∙ ap (layer_at g t) (sym e)
-    by (inr l) =
+    by (inr l) rest =
         let long : length (layers_below g t m) ≡ m = layers_long g t m in
         let inside : n < length (layers_below g t m) = omega (arith, long, l) in
-        get_or_append_left (layers_below g t m) (layer_at g t m ∷ []) [] n inside ∙ layers_get g t m n l
+        get_or_append_left (layers_below g t m) (layer_at g t m ∷ []) [] n inside ∙ rest l

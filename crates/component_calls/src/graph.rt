@@ -1,5 +1,5 @@
 //! The search for a template that reaches itself. It goes over templates by loops, so that no chain of calls is too long.
-ghost use Rattle.std.specs.Prelude.{◌≡◌, ◌≤◌, ℕ, List, [], ◌∷◌, length, get_or, true, false, None, IfOk, IsTrue, ◌↔◌, MatchOption};
+ghost use Rattle.std.specs.Prelude.{◌≡◌, ◌<◌, ◌≤◌, ℕ, List, [], ◌∷◌, length, get_or, true, false, None, IfOk, IsTrue, ◌↔◌, MatchOption};
 ghost use Rattle.component_calls.specs.Cycles.{IsAcyclic, IsLeastCycle, IsRound, ReachesNotItself};
 ghost use Rattle.component_calls.specs.Layers.{IsLeastWay, are_all, layer_at, layers_below, leads, leads_by, least_from, least_with, lesser, next_layer, next_settled, none_of, settles};
 
@@ -101,10 +101,12 @@ fn is_settling(alloc: Global, graph: &Graph) -> Result<bool, OutOfMemory>
         if are_all(&settled) {
             return Ok(true);
         }
-        settled = next_settled(alloc, graph, &settled)?;
+        let next = next_settled(alloc, graph, &settled)?;
+        settled = next;
         rounds += 1;
     }
-    Ok(are_all(&settled))
+    let is_ended = are_all(&settled);
+    Ok(is_ended)
 }
 
 // The templates that call one that leads to the target.
@@ -223,12 +225,10 @@ fn least_in(
     graph: &Graph,
     at: usize,
 ) -> Option<usize>
+    requires { left < length layers.now }
     ensures { result ≡ least_from target (get_or layers.now left []) None (get_or graph.now at []) }
 {
-    match layers.as_slice().get(left) {
-        Some(layer) => least_step(target, layer, graph, at),
-        None => None,
-    }
+    least_step(target, &layers.as_slice()[left], graph, at)
 }
 
 // The least way of at most so many calls from the target to itself.

@@ -1,7 +1,14 @@
-use Rattle.std.proofs.Common.{◌≡◌, ◌≤◌, sym, subst, ◌++◌, ◌-◌, [], List, ℕ, Bool, get_or, arith}
+use Rattle.std.proofs.Common.{◌≡◌, ◌≤◌, length, sym, ap, ◌∙◌, subst, ◌++◌, ◌-◌, [], List, ℕ, Bool, get_or, arith}
 use Rattle.component_calls.specs.Layers.{IsLeastWay, layer_at}
+use Rattle.component_calls.proofs.Ways.{layers_long}
 use Rattle.component_calls.proofs.Steps.{layer_is, one_leads, one_left, still_leads, way_ends, way_goes}
 use Rattle.component_calls.proofs.graph.least_way.Goals as goal
+
+pub least_in-requires : goal.least_in-requires
+least_in-requires c =
+    let long : length c.in_ok-layers.layers ≡ c.args.steps = ap length c.in_ok-layers.ensures ∙ layers_long c.args.graph.now c.args.target c.args.steps in
+    let within : c.steps.left ≤ c.args.steps = c.steps.invariant.1 in
+    omega (arith, long, within)
 
 pub returns-then-callee-target : goal.returns-then-callee-target
 returns-then-callee-target c =
