@@ -1,6 +1,12 @@
 pub mod Counts
 pub mod Manifests
-pub mod Held
 pub mod Texts
 pub mod Listed
 pub mod Items
+pub mod Named
+pub mod Spelled
+pub mod Held
+pub mod Added
+pub mod Numbering
+pub mod Lawful
+pub mod Bundles
