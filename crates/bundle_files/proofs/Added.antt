@@ -82,7 +82,7 @@ passed n f fs h = ap (λ v. option_map (template_from n) (if v then Some f.1 els
 
 -- a file that is no template's adds none
 pub none_added : (f : File) (fs : List File) (ts : List Template) → ((name : List ℕ) → f.0 ≢ template_file name) → AreTemplates fs ts → AreTemplates (f ∷ fs) ts
-none_added f fs ts h are = record { ascending = are.ascending; each = λ n. passed n f fs (not_file f n h) ∙ are.each n; }
+none_added f fs ts h are = record { ascending = are.ascending; each = λ n. passed n f fs (not_file f n h) ∙ are.each n }
 
 -- a template's file adds its template
 pub one_added : (f : File) (fs : List File) (name : List ℕ) (nodes : List Node) (es : List (KeyValue (List Node))) → f.0 ≡ template_file name → template_from name f.1 ≡ Some (nodes_view nodes) → AreTemplates fs (templates_view es)
@@ -107,7 +107,7 @@ one_added f fs name nodes es is spells are = record {
 pub no_files : (files : List File) (es : List (KeyValue (List Node))) → files ≡ [] → es ≡ [] → AreTemplates files (templates_view es)
 no_files files es h e =
     subst (λ (fs : List File). AreTemplates fs (templates_view es)) (sym h)
-    (subst (λ (xs : List (KeyValue (List Node))). AreTemplates [] (templates_view xs)) (sym e) (record { ascending = refl; each = λ n. refl; }))
+    (subst (λ (xs : List (KeyValue (List Node))). AreTemplates [] (templates_view xs)) (sym e) (record { ascending = refl; each = λ n. refl }))
 
 not_none : (o : Option Nodes) → Some None ≡ option_map Some o → ⊥
 not_none None h = cc

@@ -1,7 +1,8 @@
 -- What was read of the files says the bundle that the files of the folder say.
 use Rattle.std.proofs.Common.{◌≡◌, ◌≤◌, ◌<◌, ◌+◌, ◌-◌, ◌++◌, ◌==◌, ◌&&◌, ◌||◌, ℕ, zero, suc, List, [], ◌∷◌, map, filter, take, drop, length-append, length, codes, Bool, true, false, cond, get_or, Option, Some, None, option_map, Result, Ok, Err, IfOk, refl, arith, ap, sym, subst, ◌∙◌, nat_le}
 use Rattle.std.specs.Option.{option_and_then, IfSome, is_some}
-use Rattle.std.specs.List.{IsDistinct, AllByRecursion, Contains, ends_with, pointwise}
+use Rattle.std.specs.Cmp.Lexicographic.{pointwise}
+use Rattle.std.specs.List.{IsDistinct, AllByRecursion, Contains, ends_with}
 use Rattle.std.specs.Str.{bytes_eq}
 use Rattle.std.proofs.lemmas.Slice.Eq.{bytes_eq-Decides}
 use Rattle.std.proofs.lemmas.Bool.{lt-leb, leb-true, leb-false}
@@ -148,7 +149,7 @@ says_to fs files b h s = record {
   manifest = s.manifest;
   templates = s.templates;
   says = sym (manifest_same fs files h) ∙ s.says;
-  spells = record { ascending = s.spells.ascending; each = λ name. sym (templates_same fs files name h) ∙ s.spells.each name; };
+  spells = record { ascending = s.spells.ascending; each = λ name. sym (templates_same fs files name h) ∙ s.spells.each name };
   holds = s.holds;
 }
 
@@ -157,7 +158,7 @@ says_from fs files b h s = record {
   manifest = s.manifest;
   templates = s.templates;
   says = manifest_same fs files h ∙ s.says;
-  spells = record { ascending = s.spells.ascending; each = λ name. templates_same fs files name h ∙ s.spells.each name; };
+  spells = record { ascending = s.spells.ascending; each = λ name. templates_same fs files name h ∙ s.spells.each name };
   holds = s.holds;
 }
 
