@@ -2,6 +2,7 @@
 use Rattle.std.proofs.Common.{◌≡◌, ◌⊎◌, inl, inr, ℕ, List, [], ◌∷◌, map, Option, Some, None, option_map, Result, Ok, Err, refl, sym, ap, subst, ◌∙◌}
 use Rattle.ast_core.specs.declared.linked.Template.{Template}
 use Rattle.ast_core.specs.LinkedView.{template_view}
+use Rattle.ast_core.specs.NodeView.{location_of}
 use Rattle.ast_core.specs.Syntax as model
 use Rattle.component_calls.specs.declared.known.Known.{Known}
 use Rattle.component_calls.specs.declared.fault.LinkFault.{LinkFault}
@@ -9,7 +10,7 @@ use Rattle.component_calls.specs.declared.fault.LinkFault.TheVariants as unlinke
 use Rattle.component_calls.specs.Calls.{callee_of, callees, calls_in, graph_of}
 use Rattle.component_calls.specs.Cycles.{IsAcyclic, IsLeastCycle}
 use Rattle.component_calls.specs.Faults.{fault_in, or_next}
-use Rattle.component_calls.specs.Linking.{IsLawful, Refusal, RefusedRightly, RefusesLink, first_fault, known_in, refusal, refusal_in, template_fault, template_name}
+use Rattle.component_calls.specs.Linking.{IsLawful, Refusal, RefusedRightly, RefusesLink, first_fault, known_in, refusal, refusal_in, refused_at, template_fault, template_name}
 use Rattle.bundle_files.specs.declared.fault.LoadFault.{LoadFault}
 use Rattle.bundle_files.specs.Answers.{Judged}
 use Rattle.bundle_files.specs.Bundle.{IsUnlawful}
@@ -65,5 +66,5 @@ not_lawful k ts r (inr h) lawful = no_cycle (graph_of k ts) h.1.0 h.1.1 lawful.1
 
 -- what linking refuses is not lawful
 pub link_refused : {T : Type 0} (ts : List Template) (k : Known) (f : LinkFault) (good : T → Type 0) → k ≡ known_in ts [] → RefusedRightly k ts f → Judged {T = T} (Err (link_fault f)) (IsUnlawful ts) good
-link_refused ts k (unlinked.Refused t at kind) good e h = λ lawful. not_lawful k ts _ h (subst (λ (x : Known). IsLawful x ts) (sym e) lawful)
+link_refused ts k (unlinked.Refused t at kind) good e h = λ lawful. not_lawful k ts (refused_at t (location_of at) kind) h (subst (λ (x : Known). IsLawful x ts) (sym e) lawful)
 link_refused ts k unlinked.OutOfMemory good e h = tt
