@@ -6,6 +6,7 @@ pub mod Items
 pub mod Named
 pub mod Spelled
 pub mod Held
+pub mod Told
 pub mod Added
 pub mod Numbering
 pub mod Lawful
