@@ -20,9 +20,8 @@ use Rattle.bundle_files.specs.Answers.{Judged}
 use Rattle.bundle_files.specs.Files.{AreNoTemplates, AreTemplates, File, IsBadFile, names, nodes_of, template_file, template_from}
 use Rattle.bundle_files.specs.Listed.{templates_view}
 use Rattle.bundle_files.proofs.Held.{found_at}
-use Rattle.bundle_files.proofs.Named.{itself, named_first}
+use Rattle.bundle_files.proofs.Named.{found_plain}
 use Rattle.bundle_files.proofs.Spelled.{from_plain}
-use Rattle.bundle_files.proofs.Named as named
 
 pub keys_seen : (es : List (KeyValue (List Node))) → names (templates_view es) ≡ keys es
 keys_seen [] = refl
@@ -133,14 +132,14 @@ file_refused fs i f fault.Refused good better d h is bad = bad_file fs i f d h i
 file_refused fs i f fault.OutOfMemory good better d h is bad = tt
 file_refused fs i f fault.ReadFault good better d h is bad = bad
 
+some_is : (x y : Option Nodes) → Some x ≡ Some y → x ≡ y
+some_is x y e = cc
+
+plain_by : (n : List ℕ) (c : Option (List ℕ)) (o : Option Nodes) → option_map (template_from n) c ≡ option_map Some o → IfSome o (λ ns. all_plain ns ≡ true)
+plain_by n c None h = tt
+plain_by n None (Some ns) h = cc
+plain_by n (Some bytes) (Some ns) h = from_plain n bytes ns (some_is (template_from n bytes) (Some ns) h)
+
 -- the templates of files are plain
 pub templates_are_plain : (fs : List File) (ts : List Template) → AreTemplates fs ts → templates_plain ts ≡ true
-templates_are_plain fs ts are = named.found_plain ts are.ascending (λ n. by n (content_of (template_file n) fs) (nodes_of n ts) (are.each n))
-  where
-    by : (n : List ℕ) (c : Option (List ℕ)) (o : Option Nodes) → option_map (template_from n) c ≡ option_map Some o → IfSome o (λ ns. all_plain ns ≡ true)
-    by n c None h = tt
-    by n None (Some ns) h = cc
-    by n (Some bytes) (Some ns) h = from_plain n bytes ns (same (template_from n bytes) (Some ns) h)
-      where
-        same : (x y : Option Nodes) → Some x ≡ Some y → x ≡ y
-        same x y e = cc
+templates_are_plain fs ts are = found_plain ts are.ascending (λ n. plain_by n (content_of (template_file n) fs) (nodes_of n ts) (are.each n))

@@ -47,6 +47,9 @@ some_same (Some x) (Some y) h = some_is (Some x) (Some y) h
 pub one_reading : (fs : List File) (ts us : List model.Template) → AreTemplates fs ts → AreTemplates fs us → ts ≡ us
 one_reading fs ts us a b = same_templates ts us a.ascending b.ascending (λ n. some_same (nodes_of n ts) (nodes_of n us) (sym (a.each n) ∙ b.each n))
 
+linked_same : (ts us : List Template) → map template_view ts ≡ map template_view us → linked_of ts [] ≡ linked_of us []
+linked_same ts us h = ap linked_from h
+
 -- what they hold is told by them as well
 moved : (m n : Manifest) (ts us : List Template) (b : Bundle) → m ≡ n → map template_view ts ≡ map template_view us → IsBundleOf m ts b → IsBundleOf n us b
 moved m n ts us b e h of = record {
@@ -57,9 +60,6 @@ moved m n ts us b e h of = record {
   mount = of.mount ∙ ap (λ (k : Manifest). k.mount) e;
   events = of.events ∙ ap (λ (k : Manifest). k.events) e;
 }
-  where
-    linked_same : (ts us : List Template) → map template_view ts ≡ map template_view us → linked_of ts [] ≡ linked_of us []
-    linked_same ts us h = ap linked_from h
 
 -- files whose manifest and templates are no bundle say none
 pub says_none : (fs : List File) (m : Manifest) (ts : List Template) → manifest_at fs ≡ Some m → AreTemplates fs (map template_view ts) → IsNoBundleOf m ts → SaysNone fs

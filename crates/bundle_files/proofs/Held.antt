@@ -10,6 +10,9 @@ use Rattle.bundle_files.specs.Files.{File, is_read}
 use Rattle.bundle_files.specs.Held.{AllHold}
 use Rattle.bundle_files.proofs.Named.{itself}
 
+never : (v : Bool) → v ≡ true → v ≡ false → ⊥
+never v e f = cc
+
 held_snoc : (fs files : List (List ℕ × List ℕ)) (f : List ℕ × List ℕ) → AllHold fs files → Holds f.0 1048576 f.1 fs → AllHold fs (files ++ f ∷ [])
 held_snoc fs [] f a h = (h, tt)
 held_snoc fs (g ∷ files) f a h = (a.0, held_snoc fs files f a.1 h)
@@ -51,10 +54,7 @@ has_read name (n ∷ ns) h = by (is_read n) refl (bytes_eq name n) refl (has_rea
   where
     by : (r : Bool) → is_read n ≡ r → (b : Bool) → bytes_eq name n ≡ b → has name (filter is_read ns) ≡ has name ns → has name (cond r (n ∷ filter is_read ns) (filter is_read ns)) ≡ cond (bytes_eq name n) true (has name ns)
     by true e b f rest = ap (λ t. cond (bytes_eq name n) true t) rest
-    by false e true f rest = elim (not_both (ap is_read (sym ((bytes_eq-Decides name n).0 f)) ∙ h) e) [ ]
-      where
-        not_both : is_read n ≡ true → is_read n ≡ false → ⊥
-        not_both k l = cc
+    by false e true f rest = absurd (never (is_read n) (ap is_read (sym ((bytes_eq-Decides name n).0 f)) ∙ h) e)
     by false e false f rest = rest ∙ ap (λ t. cond t true (has name ns)) (sym f)
 
 pub contents : (name : List ℕ) (fs files : List File) → is_read name ≡ true → AllHold fs files → map (λ f. f.0) files ≡ filter is_read (map (λ f. f.0) fs) → content_of name files ≡ option_map (take (1048576 + 1)) (content_of name fs)
@@ -97,10 +97,7 @@ found_at (g ∷ fs) zero f d h e = ap (λ (x : File). content_of f.0 (x ∷ fs))
 found_at (g ∷ fs) (suc i) f d h e = ap (λ v. cond v (Some g.1) (content_of f.0 fs)) (apart fs i d.0 (omega (arith, h)) e) ∙ found_at fs i f d.1 (omega (arith, h)) e
   where
     turned : (v : Bool) → bytes_eq f.0 g.0 ≡ v → bytes_eq g.0 f.0 ≡ false → v ≡ false
-    turned true is no = elim (never (sym no ∙ ((bytes_eq-Decides g.0 f.0).1 (sym ((bytes_eq-Decides f.0 g.0).0 is))))) [ ]
-      where
-        never : false ≡ true → ⊥
-        never k = cc
+    turned true is no = absurd (never (bytes_eq g.0 f.0) ((bytes_eq-Decides g.0 f.0).1 (sym ((bytes_eq-Decides f.0 g.0).0 is))) no)
     turned false is no = refl
 
     apart : (gs : List File) (j : ℕ) → AllByRecursion (λ m. bytes_eq g.0 m ≡ false) (map (λ x. x.0) gs) → j < length gs → f ≡ get_or gs j f → bytes_eq f.0 g.0 ≡ false

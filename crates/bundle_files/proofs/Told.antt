@@ -40,6 +40,10 @@ cut_small : (most : ℕ) (o : Option (List ℕ)) → small most (option_map (tak
 cut_small most None = refl
 cut_small most (Some c) = cut_if (nat_le (length c) most) most c refl
 
+never : (w : Bool) (o : Option Nodes) → cond (w && false) o None ≡ None
+never true o = refl
+never false o = refl
+
 cut_from : (name c : List ℕ) (v b : Bool) → is_template_name name ≡ v → nat_le (length c) 1048576 ≡ b → template_from name (take (1048576 + 1) c) ≡ template_from name c
 cut_from name c v true f e =
     let n : length c ≤ 1048576 = leb-true (length c) 1048576 e in
@@ -49,10 +53,6 @@ cut_from name c v false f e =
     let t : nat_le (length (take (1048576 + 1) c)) 1048576 ≡ false = lt-leb _ 1048576 (omega (arith, length-take (1048576 + 1) c, n)) in
     ap (λ x. cond (is_template_name name && x) (template_in (take (1048576 + 1) c)) None) t ∙ never (is_template_name name) (template_in (take (1048576 + 1) c))
     ∙ sym (ap (λ x. cond (is_template_name name && x) (template_in c) None) e ∙ never (is_template_name name) (template_in c))
-  where
-    never : (w : Bool) (o : Option Nodes) → cond (w && false) o None ≡ None
-    never true o = refl
-    never false o = refl
 
 -- a template's file that was cut behind the limit spells none, as the whole file
 cut_template : (name : List ℕ) (o : Option (List ℕ)) → option_map (template_from name) (option_map (take (1048576 + 1)) o) ≡ option_map (template_from name) o
@@ -64,12 +64,12 @@ either_true : (v : Bool) → (v || true) ≡ true
 either_true true = refl
 either_true false = refl
 
+not_zero : (k : ℕ) → 0 ≡ suc k → ⊥
+not_zero k e = cc
+
 drop_front : (xs ys : List ℕ) (n : ℕ) → n ≡ length xs → drop n (xs ++ ys) ≡ ys
 drop_front [] ys n h = ap (λ k. drop k ys) h
-drop_front (x ∷ xs) ys zero h = elim (not_zero (length xs) h) [ ]
-  where
-    not_zero : (k : ℕ) → 0 ≡ suc k → ⊥
-    not_zero k e = cc
+drop_front (x ∷ xs) ys zero h = absurd (not_zero (length xs) h)
 drop_front (x ∷ xs) ys (suc n) h = drop_front xs ys n (omega (arith, h))
 
 ends_so : (name : List ℕ) → ends_with (λ a b. a == b) (template_file name) (codes ".html.heex") ≡ true
@@ -137,10 +137,10 @@ told_none (Some fs) listed names files r l n e a h is =
 pub not_fault : (files : List File) (r : Result program.Bundle LoadFault) → Judged r (SaysNone files) (λ b. Says files (bundle_view b)) → r ≡ Err fault.ReadFault → ⊥
 not_fault files r h is = subst (λ (q : Result program.Bundle LoadFault). Judged q (SaysNone files) (λ b. Says files (bundle_view b))) is h
 
+too_long : (k : ℕ) → 256 < k → k ≤ 256 → ⊥
+too_long k h g = omega (arith, h, g)
+
 -- more files are no bundle
 pub too_many : (o : Option (List File)) (listed names : List (List ℕ)) → Listed o listed → names ≡ filter is_read listed → 256 < length names → IfSome o IsNoBundle
 too_many None listed names l n many = tt
-too_many (Some fs) listed names l n many = λ b s. over (length (filter is_read (map (λ f. f.0) fs))) (subst (λ (ns : List (List ℕ)). 256 < length ns) (n ∙ ap (filter is_read) l) many) s.0
-  where
-    over : (k : ℕ) → 256 < k → k ≤ 256 → ⊥
-    over k h g = omega (arith, h, g)
+too_many (Some fs) listed names l n many = λ b s. too_long (length (filter is_read (map (λ f. f.0) fs))) (subst (λ (ns : List (List ℕ)). 256 < length ns) (n ∙ ap (filter is_read) l) many) s.0
