@@ -1,5 +1,5 @@
 -- Templates by their names, file by file.
-use Rattle.std.proofs.Common.{◌≡◌, ◌≢◌, ◌<◌, ◌≤◌, ◌-◌, ◌+◌, ℕ, List, [], ◌∷◌, ◌++◌, drop, length, length-append, map, get_or, Bool, true, false, if◌then◌else◌, Option, Some, None, IfSome, option_map, Result, Ok, Err, refl, sym, ap, subst, ◌∙◌, arith, Less, Equal, Greater}
+use Rattle.std.proofs.Common.{◌≡◌, ◌≢◌, ◌<◌, ◌≤◌, ◌-◌, ◌+◌, ℕ, List, [], ◌∷◌, ◌++◌, drop, length, length-append, map, get_or, codes, Bool, true, false, if◌then◌else◌, Option, Some, None, IfSome, option_map, Result, Ok, Err, refl, sym, ap, subst, ◌∙◌, arith, Less, Equal, Greater}
 use Rattle.std.specs.List.{IsDistinct}
 use Rattle.std.specs.Str.{bytes_eq}
 use Rattle.std.specs.Ordering.{match_ordering}
@@ -36,34 +36,31 @@ pub found_seen : (n : List ℕ) (es : List (KeyValue (List Node))) → nodes_of 
 found_seen n [] = refl
 found_seen n (e ∷ es) = by_test (bytes_eq n e.key) e.value (nodes_of n (templates_view es)) (lookup n es) (found_seen n es)
 
--- the name of a template's file tells its own
-length_same : (a b s : List ℕ) → a ++ s ≡ b ++ s → a ≡ b
-length_same a b s h = drop_end a b s h
-  where
-    same_tail : (x y : ℕ) (xs ys : List ℕ) → x ∷ xs ≡ y ∷ ys → (x ≡ y) × (xs ≡ ys)
-    same_tail x y xs ys e = (cc, cc)
+same_tail : (x y : ℕ) (xs ys : List ℕ) → x ∷ xs ≡ y ∷ ys → (x ≡ y) × (xs ≡ ys)
+same_tail x y xs ys e = (cc, cc)
 
-    longer : (c s : List ℕ) (x : ℕ) → s ≡ x ∷ (c ++ s) → ⊥
-    longer c s x e = omega (arith, ap length e, length-append c s)
+longer : (c s : List ℕ) (x : ℕ) → s ≡ x ∷ (c ++ s) → ⊥
+longer c s x e = omega (arith, ap length e, length-append c s)
 
-    drop_end : (a b s : List ℕ) → a ++ s ≡ b ++ s → a ≡ b
-    drop_end [] [] s h = refl
-    drop_end [] (y ∷ ys) s h = elim (longer ys s y h) [ ]
-    drop_end (x ∷ xs) [] s h = elim (longer xs s x (sym h)) [ ]
-    drop_end (x ∷ xs) (y ∷ ys) s h =
-        let p = same_tail x y (xs ++ s) (ys ++ s) h in
-        ap (λ (z : ℕ). z ∷ xs) p.0 ∙ ap (λ (zs : List ℕ). y ∷ zs) (drop_end xs ys s p.1)
+-- what stands before the same end is the same
+same_front : (a b s : List ℕ) → a ++ s ≡ b ++ s → a ≡ b
+same_front [] [] s h = refl
+same_front [] (y ∷ ys) s h = absurd (longer ys s y h)
+same_front (x ∷ xs) [] s h = absurd (longer xs s x (sym h))
+same_front (x ∷ xs) (y ∷ ys) s h =
+    let p = same_tail x y (xs ++ s) (ys ++ s) h in
+    ap (λ (z : ℕ). z ∷ xs) p.0 ∙ ap (λ (zs : List ℕ). y ∷ zs) (same_front xs ys s p.1)
+
+never : (v : Bool) → v ≡ true → v ≡ false → ⊥
+never v e f = cc
 
 other_file : (n name : List ℕ) → bytes_eq n name ≡ false → bytes_eq (template_file n) (template_file name) ≡ false
 other_file n name h = by (bytes_eq (template_file n) (template_file name)) refl
   where
-    never : (v : Bool) → v ≡ true → v ≡ false → ⊥
-    never v e f = cc
-
     by : (v : Bool) → bytes_eq (template_file n) (template_file name) ≡ v → v ≡ false
     by true is =
-        let same : n ≡ name = length_same n name _ ((bytes_eq-Decides (template_file n) (template_file name)).0 is) in
-        elim (never (bytes_eq n name) ((bytes_eq-Decides n name).1 same) h) [ ]
+        let same : n ≡ name = same_front n name (codes ".html.heex") ((bytes_eq-Decides (template_file n) (template_file name)).0 is) in
+        absurd (never (bytes_eq n name) ((bytes_eq-Decides n name).1 same) h)
     by false is = refl
 
 abbrev given : List ℕ → List File → Option (Option Nodes)
@@ -73,7 +70,7 @@ not_file : (f : File) (n : List ℕ) → ((name : List ℕ) → f.0 ≢ template
 not_file f n h = by (bytes_eq (template_file n) f.0) refl
   where
     by : (v : Bool) → bytes_eq (template_file n) f.0 ≡ v → v ≡ false
-    by true is = elim (h n (sym ((bytes_eq-Decides (template_file n) f.0).0 is))) [ ]
+    by true is = absurd (h n (sym ((bytes_eq-Decides (template_file n) f.0).0 is)))
     by false is = refl
 
 passed : (n : List ℕ) (f : File) (fs : List File) → bytes_eq (template_file n) f.0 ≡ false → given n (f ∷ fs) ≡ given n fs

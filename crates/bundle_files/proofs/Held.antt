@@ -89,21 +89,21 @@ distinct_read p (n ∷ ns) h = by (p n) (all_read p (λ m. bytes_eq n m ≡ fals
     by true first rest = (first, rest)
     by false first rest = rest
 
+turned : (a b : List ℕ) (v : Bool) → bytes_eq a b ≡ v → bytes_eq b a ≡ false → v ≡ false
+turned a b true is no = absurd (never (bytes_eq b a) ((bytes_eq-Decides b a).1 (sym ((bytes_eq-Decides a b).0 is))) no)
+turned a b false is no = refl
+
+apart : (name : List ℕ) (gs : List File) (j : ℕ) (f : File) → AllByRecursion (λ m. bytes_eq name m ≡ false) (map (λ x. x.0) gs) → j < length gs → f ≡ get_or gs j f → bytes_eq f.0 name ≡ false
+apart name [] j f all k is = absurd (omega arith)
+apart name (x ∷ gs) zero f all k is = turned f.0 name (bytes_eq f.0 name) refl (ap (λ (y : File). bytes_eq name y.0) is ∙ all.0)
+apart name (x ∷ gs) (suc j) f all k is = apart name gs j f all.1 (omega (arith, k)) is
+
 -- of files with distinct names each is found by its own
 pub found_at : (fs : List File) (i : ℕ) (f : File) → IsDistinct bytes_eq (map (λ g. g.0) fs) → i < length fs → f ≡ get_or fs i f → content_of f.0 fs ≡ Some f.1
 unfolding IsDistinct
 found_at [] i f d h e = absurd (omega arith)
 found_at (g ∷ fs) zero f d h e = ap (λ (x : File). content_of f.0 (x ∷ fs)) (sym e) ∙ ap (λ v. cond v (Some f.1) (content_of f.0 fs)) (itself f.0)
-found_at (g ∷ fs) (suc i) f d h e = ap (λ v. cond v (Some g.1) (content_of f.0 fs)) (apart fs i d.0 (omega (arith, h)) e) ∙ found_at fs i f d.1 (omega (arith, h)) e
-  where
-    turned : (v : Bool) → bytes_eq f.0 g.0 ≡ v → bytes_eq g.0 f.0 ≡ false → v ≡ false
-    turned true is no = absurd (never (bytes_eq g.0 f.0) ((bytes_eq-Decides g.0 f.0).1 (sym ((bytes_eq-Decides f.0 g.0).0 is))) no)
-    turned false is no = refl
-
-    apart : (gs : List File) (j : ℕ) → AllByRecursion (λ m. bytes_eq g.0 m ≡ false) (map (λ x. x.0) gs) → j < length gs → f ≡ get_or gs j f → bytes_eq f.0 g.0 ≡ false
-    apart [] j all k is = absurd (omega arith)
-    apart (x ∷ gs) zero all k is = turned (bytes_eq f.0 g.0) refl (ap (λ (y : File). bytes_eq g.0 y.0) is ∙ all.0)
-    apart (x ∷ gs) (suc j) all k is = apart gs j all.1 (omega (arith, k)) is
+found_at (g ∷ fs) (suc i) f d h e = ap (λ v. cond v (Some g.1) (content_of f.0 fs)) (apart g.0 fs i f d.0 (omega (arith, h)) e) ∙ found_at fs i f d.1 (omega (arith, h)) e
 
 if_held : (o p : Option (List (List ℕ × List ℕ))) (files : List (List ℕ × List ℕ)) (f : List ℕ × List ℕ) → p ≡ o → IfSome o (λ fs. AllHold fs files) → IfSome p (λ fs. Holds f.0 1048576 f.1 fs) → IfSome o (λ fs. AllHold fs (files ++ f ∷ []))
 if_held None p files f e a h = tt
