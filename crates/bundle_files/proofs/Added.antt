@@ -18,7 +18,7 @@ use Rattle.bundle_files.specs.declared.fault.LoadFault.{LoadFault}
 use Rattle.bundle_files.specs.declared.fault.LoadFault.TheVariants as fault
 use Rattle.bundle_files.specs.Answers.{Judged}
 use Rattle.bundle_files.specs.Files.{AreNoTemplates, AreTemplates, File, IsBadFile, names, nodes_of, template_file, template_from}
-use Rattle.bundle_files.specs.Listed.{templates_view}
+use Rattle.bundle_files.specs.TemplatesView.{templates_view}
 use Rattle.bundle_files.proofs.Held.{found_at}
 use Rattle.bundle_files.proofs.Named.{found_plain}
 use Rattle.bundle_files.proofs.Spelled.{from_plain}

@@ -1,6 +1,6 @@
 use Rattle.std.proofs.Common.{◌≡◌, ◌++◌, length}
 use Rattle.std.specs.Vec.Iter.{into_iter_items, into_iter_len}
-use Rattle.bundle_files.specs.Listed.{listed}
+use Rattle.bundle_files.specs.TemplatesView.{listed}
 use Rattle.bundle_files.proofs.templates.listed.Given as goal
 
 -- the templates so far, and then what is left, are all

@@ -1,6 +1,6 @@
 use Rattle.std.proofs.Common.{drop}
 use Rattle.bundle_files.specs.Files.{AreTemplates}
-use Rattle.bundle_files.specs.Listed.{templates_view}
+use Rattle.bundle_files.specs.TemplatesView.{templates_view}
 use Rattle.bundle_files.proofs.templates.read_templates.Given as goal
 
 -- the templates so far are those of the files behind
