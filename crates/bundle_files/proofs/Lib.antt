@@ -3,6 +3,7 @@ pub mod Manifests
 pub mod Texts
 pub mod Listed
 pub mod Items
+pub mod Endings
 pub mod Named
 pub mod Spelled
 pub mod Held
