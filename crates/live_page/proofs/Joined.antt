@@ -65,7 +65,7 @@ module _ {V : Type 0} (meaning : V → HandlerMeaning) (app : App V) (route : Ro
 
   -- effects of mount that fail
   pub mount_fault : (w w' : List Waiting) (es : List Effect) (x : List (KeyValue Stored)) (y rest : Beside) (fault : EffectFault) → first_asked ≡ Some es
-      → Becomes (Err fault) (apply_effects es (applied no_assigns empty_stream r0)) x w' y → Joins app.compiled w (joined_page (world_of meaning app) route j t r0) (Err (of_effect fault)) rest
+      → Becomes (Err fault) (apply_effects es (applied no_assigns empty_stream r0)) x w' y → Joins app.page w (joined_page (world_of meaning app) route j t r0) (Err (of_effect fault)) rest
   mount_fault w w' es x y rest effect.Raised asked h = by (apply_effects es (applied no_assigns empty_stream r0)) refl h
     where
       by : (q : Res Applied) → apply_effects es (applied no_assigns empty_stream r0) ≡ q → IsErr q → IsErr (joined_page (world_of meaning app) route j t r0)
@@ -75,7 +75,7 @@ module _ {V : Type 0} (meaning : V → HandlerMeaning) (app : App V) (route : Ro
 
   -- params that are not taken
   pub params_fault : (w : List Waiting) (es : List Effect) (as1 : Assigns) (st1 : List ℕ → Stream) (r1 : Rest) (rest : Beside) (fault : ViewFault) → first_asked ≡ Some es
-      → apply_effects es (applied no_assigns empty_stream r0) ≡ Ok (applied as1 st1 r1) → Means (Err fault) (then_asked as1) → Joins app.compiled w (joined_page (world_of meaning app) route j t r0) (Err (of_view fault)) rest
+      → apply_effects es (applied no_assigns empty_stream r0) ≡ Ok (applied as1 st1 r1) → Means (Err fault) (then_asked as1) → Joins app.page w (joined_page (world_of meaning app) route j t r0) (Err (of_view fault)) rest
   params_fault w es as1 st1 r1 rest handler.Raised asked is h =
       ap is_err (mounts es (Ok (applied as1 st1 r1)) asked is ∙ ap (λ o. then_do (applied_or_raise o (applied as1 st1 r1)) shown) h)
   params_fault w es as1 st1 r1 rest handler.OutOfMemory asked is h = tt
@@ -83,7 +83,7 @@ module _ {V : Type 0} (meaning : V → HandlerMeaning) (app : App V) (route : Ro
   -- effects of the params that fail
   pub begun_fault : (w w' : List Waiting) (es fs : List Effect) (as1 : Assigns) (st1 : List ℕ → Stream) (r1 : Rest) (x : List (KeyValue Stored)) (y rest : Beside) (fault : EffectFault) → first_asked ≡ Some es
       → apply_effects es (applied no_assigns empty_stream r0) ≡ Ok (applied as1 st1 r1) → then_asked as1 ≡ Some fs
-      → Becomes (Err fault) (apply_effects fs (applied as1 st1 r1)) x w' y → Joins app.compiled w (joined_page (world_of meaning app) route j t r0) (Err (of_effect fault)) rest
+      → Becomes (Err fault) (apply_effects fs (applied as1 st1 r1)) x w' y → Joins app.page w (joined_page (world_of meaning app) route j t r0) (Err (of_effect fault)) rest
   begun_fault w w' es fs as1 st1 r1 x y rest effect.Raised asked is asked_then h = by (apply_effects fs (applied as1 st1 r1)) refl h
     where
       by : (q : Res Applied) → apply_effects fs (applied as1 st1 r1) ≡ q → IsErr q → IsErr (joined_page (world_of meaning app) route j t r0)
@@ -94,7 +94,7 @@ module _ {V : Type 0} (meaning : V → HandlerMeaning) (app : App V) (route : Ro
 
   -- a first rendering that does not succeed
   pub first_fault : (w : List Waiting) (f : Items → Outcome) (as' : Assigns) (json : Items → Data) (rest : Beside) (fault : RenderFault)
-      → joined_page (world_of meaning app) route j t r0 ≡ on_res f (met_of meaning app as') → Renders app.compiled as' json (Err fault)
-      → Joins app.compiled w (joined_page (world_of meaning app) route j t r0) (Err (of_render fault)) rest
+      → joined_page (world_of meaning app) route j t r0 ≡ on_res f (met_of meaning app as') → Renders app.page as' json (Err fault)
+      → Joins app.page w (joined_page (world_of meaning app) route j t r0) (Err (of_render fault)) rest
   first_fault w f as' json rest render.Raised is (e, meets) = raises_page meaning app (joined_page (world_of meaning app) route j t r0) f as' e is meets
   first_fault w f as' json rest render.OutOfMemory is h = tt

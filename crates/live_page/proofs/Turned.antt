@@ -39,16 +39,16 @@ module _ {V : Type 0} (meaning : V → HandlerMeaning) (app : App V) where
   -- a rendering that is met leaves this page
   pub leaves_page : (w : List Waiting) (given : Res Outcome) (json : Items → Data) (v : ℕ) (j : Option (List ℕ)) (t : List ℕ) (before after : Tracked) (rest : Beside) (sent : Part) (prints : List Print)
       → given ≡ on_res (outcome_of meaning app v j t (present before) (rest_view w rest)) (met_of meaning app (present before))
-      → Sends app.compiled (present before) json (sent, prints) → CountsFree w rest → after.present ≡ before.present → ((n : List ℕ) → settled_of after n ≡ present_of before n)
-      → Leaves app.compiled w given json (record { view = v; assigns = after; prints = prints; join_ref = j; topic = t }) rest sent
+      → Sends app.page (present before) json (sent, prints) → CountsFree w rest → after.present ≡ before.present → ((n : List ℕ) → settled_of after n ≡ present_of before n)
+      → Leaves app.page w given json (record { view = v; assigns = after; prints = prints; join_ref = j; topic = t }) rest sent
   leaves_page w given json v j t before after rest sent prints is sends free same settled = record {
     outcome = outcome_of meaning app v j t (present before) (rest_view w rest) sends.items;
     given_is = is ∙ ap (on_res (outcome_of meaning app v j t (present before) (rest_view w rest))) (met_is meaning app (present before) (Ok sends.items) sends.met);
     stands = record {
       is = ap (λ es. page_of v (assigns_view es) j t sends.items) (sym same);
-      met = subst (λ es. Meets app.compiled (assigns_view es) (Ok sends.items)) (sym same) sends.met;
+      met = subst (λ es. Meets app.page (assigns_view es) (Ok sends.items)) (sym same) sends.met;
       settled = settles before after same settled;
-      remembered = subst (λ es. Recalls app.compiled (assigns_view es) prints) (sym same) sends.remembered;
+      remembered = subst (λ es. Recalls app.page (assigns_view es) prints) (sym same) sends.remembered;
     };
     rest_is = refl;
     free = free;
@@ -56,11 +56,11 @@ module _ {V : Type 0} (meaning : V → HandlerMeaning) (app : App V) where
   }
 
   -- a rendering that raises
-  pub raises_page : (given : Res Outcome) (f : Items → Outcome) (as' : Assigns) (e : Raise) → given ≡ on_res f (met_of meaning app as') → Meets app.compiled as' (Err e) → IsErr given
+  pub raises_page : (given : Res Outcome) (f : Items → Outcome) (as' : Assigns) (e : Raise) → given ≡ on_res f (met_of meaning app as') → Meets app.page as' (Err e) → IsErr given
   raises_page given f as' e is meets = ap is_err (is ∙ ap (on_res f) (met_is meaning app as' (Err e) meets))
 
   -- a turn after effects that are applied
-  pub turned : (u : LivePage) (p : Page) → StandsFor app.compiled u p → (es : List Effect) (r0 : Rest) (as' : Assigns) (streams : List ℕ → Stream) (r : Rest)
+  pub turned : (u : LivePage) (p : Page) → StandsFor app.page u p → (es : List Effect) (r0 : Rest) (as' : Assigns) (streams : List ℕ → Stream) (r : Rest)
       → apply_effects es (record { assigns = present u.assigns; streams = p.streams }, r0) ≡ Ok (record { assigns = as'; streams = streams }, r)
       → view_turn (world_of meaning app) p (Some es) r0 ≡ on_res (outcome_of meaning app u.view u.join_ref u.topic as' r) (met_of meaning app as')
   turned u p stands es r0 as' streams r h =
@@ -69,7 +69,7 @@ module _ {V : Type 0} (meaning : V → HandlerMeaning) (app : App V) where
       (subst (λ st. apply_effects es (record { assigns = present u.assigns; streams = st }, r0) ≡ Ok (record { assigns = as'; streams = streams }, r)) (ap (λ x. x.streams) stands.is) h)
 
   -- a turn whose effects raise
-  pub turn_raises : (u : LivePage) (p : Page) → StandsFor app.compiled u p → (es : List Effect) (r0 : Rest)
+  pub turn_raises : (u : LivePage) (p : Page) → StandsFor app.page u p → (es : List Effect) (r0 : Rest)
       → IsErr (apply_effects es (record { assigns = present u.assigns; streams = p.streams }, r0)) → IsErr (view_turn (world_of meaning app) p (Some es) r0)
   turn_raises u p stands es r0 h = by (apply_effects es (record { assigns = p.assigns; streams = p.streams }, r0)) refl (subst (λ x. IsErr (apply_effects es (record { assigns = x; streams = p.streams }, r0))) (sym (ap (λ x. x.assigns) stands.is)) h)
     where
@@ -78,11 +78,11 @@ module _ {V : Type 0} (meaning : V → HandlerMeaning) (app : App V) where
       by (Err e) is no_err = ap (λ q. is_err (then_do q (λ a. rendered_page (world_of meaning app) p.view p.join_reference p.topic (turning_view p.components p.next a)))) is
 
   -- the assigns after effects have the settled values of the page
-  pub still_settled : (u : LivePage) (p : Page) → StandsFor app.compiled u p → (after : Tracked) → ((n : List ℕ) → settled_of after n ≡ settled_of u.assigns n) → HasSettled after (present u.assigns)
+  pub still_settled : (u : LivePage) (p : Page) → StandsFor app.page u p → (after : Tracked) → ((n : List ℕ) → settled_of after n ≡ settled_of u.assigns n) → HasSettled after (present u.assigns)
   still_settled u p stands after same n = stands.settled n ∙ sym (same n)
 
   -- a turn whose rendering does not succeed
   pub turn_fault : (w : List Waiting) (p : Page) (given : Res Outcome) (u : LivePage) (rest : Beside) (f : Items → Outcome) (as' : Assigns) (json : Items → Data) (fault : RenderFault)
-      → given ≡ on_res f (met_of meaning app as') → Renders app.compiled as' json (Err fault) → Turns app.compiled w p given u (Err (of_render fault)) rest
+      → given ≡ on_res f (met_of meaning app as') → Renders app.page as' json (Err fault) → Turns app.page w p given u (Err (of_render fault)) rest
   turn_fault w p given u rest f as' json render.Raised is (e, meets) = raises_page given f as' e is meets
   turn_fault w p given u rest f as' json render.OutOfMemory is h = tt

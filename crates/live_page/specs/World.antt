@@ -1,15 +1,13 @@
 -- What a process runs: the world of the definitions, from an app.
-use Rattle.std.specs.Prelude.{ℕ, List, [], None, Option, option_map}
+use Rattle.std.specs.Prelude.{ℕ, List, None, Option, option_map}
 use Rattle.value_core.specs.Value.{Value, map_of, Assigns, no_assigns, assign}
 use Rattle.value_core.specs.View.{view}
 use Rattle.view_api.specs.Meaning.{HandlerMeaning, meaning_of}
-use Rattle.slot_compile.specs.Template.{syntax_of}
+use Rattle.bundle_compile.specs.Page.{root_of, site_of_view}
 use Rattle.route_table.specs.Table.{Rows}
 use Rattle.route_table.specs.Found.{Finding, find_in}
 use Rattle.params_core.specs.Form.{form_value}
 use Rattle.doc_model.specs.Environment.{with_key}
-use Rattle.doc_model.specs.Scopes.{Site}
-use Rattle.doc_model.specs.Bundle.{site_of}
 use Rattle.doc_model.specs.Process.{World, Route}
 use Rattle.live_page.specs.declared.app.App.{App}
 use Rattle.live_page.specs.declared.destination.Destination.{Destination}
@@ -35,15 +33,11 @@ route_in rows url = option_map route_of (find_in rows url)
 abbrev pub destination_view : Destination → Route
 destination_view d = record { view = d.view; params = view d.params }
 
--- the templates call nothing yet
-abbrev pub site : Site
-site = site_of (record { templates = []; bodies = []; modules = [] })
-
--- the world of an app: one template, its views' meaning, its routes, and forms
+-- the world of an app: its bundle, the template of its view, its views' meaning, its routes, and forms
 abbrev pub world_of : {V : Type 0} → (V → HandlerMeaning) → App V → World
 world_of meaning app = record {
-  site = site;
-  template_of = λ v. syntax_of app.compiled;
+  site = site_of_view app.page;
+  template_of = λ v. root_of app.page;
   views = meaning_of (meaning app.views) (λ m. None);
   route = route_in app.routes;
   read_form = form_value;

@@ -1,36 +1,32 @@
 //! What the processes of a bundle share.
-ghost use Rattle.slot_compile.specs.Template.{IsPlain};
-
 use crate::Destination;
 use crate::destination::leads_to;
+use bundle_compile::CompiledView;
 use route_table::Routes;
-use slot_compile::Compiled;
 use std::alloc::Global;
 use text_core::OutOfMemory;
 use view_api::Views;
 
-/// What the processes of a bundle share: its template, whose places are plain, its routes, and the views.
+/// What the processes of a bundle share: the page of its view, its routes, and the views.
 #[derive(Drop)]
 pub struct App<V> {
-    pub compiled: Compiled,
+    pub page: CompiledView,
     pub routes: Routes,
     pub views: V,
-    pub ghost plain: { IsPlain compiled },
 }
 
 impl<V: Views> App<V> {
     ghost use Rattle.std.specs.Prelude.{◌≡◌, IfOk, option_map};
     ghost use Rattle.live_page.specs.World.{route_in, destination_view};
 
-    /// The app of a template, the routes to its views, and the views.
-    pub fn build(compiled: Compiled, routes: Routes, views: V) -> App<V>
-        ensures compiled { result.compiled ≡ compiled }
+    /// The app of a view's page, the routes to the views, and the views.
+    pub fn build(page: CompiledView, routes: Routes, views: V) -> App<V>
+        ensures page { result.page ≡ page }
         ensures routes { result.routes ≡ routes }
         ensures views { result.views ≡ views }
     {
-        compiled.places_are_plain();
         App {
-            compiled,
+            page,
             routes,
             views,
         }

@@ -43,7 +43,7 @@ impl LivePage {
         rest: &mut Rest,
     ) -> Result<(LivePage, Part), PageFault>
         ensures { (w : List Waiting) → CountsFree w rest.old
-            → Joins app.now.compiled w (joined_page (world_of V.meaning app.now) (destination_view to.now) join_ref topic (rest_view w rest.old)) result rest.new }
+            → Joins app.now.page w (joined_page (world_of V.meaning app.now) (destination_view to.now) join_ref topic (rest_view w rest.old)) result rest.new }
     {
         let mut assigns = Tracked::new(alloc);
         let mounted = app.views.mount(alloc, to.view, &to.params)?;
@@ -52,7 +52,7 @@ impl LivePage {
             .views
             .handle_params(alloc, to.view, &to.params, assigns.assigns())?;
         apply_effects(alloc, begun, &mut assigns, rest)?;
-        let (tree, prints) = first(alloc, &app.compiled, assigns.assigns())?;
+        let (tree, prints) = first(alloc, &app.page, assigns.assigns())?;
         assigns.settle();
         let page = LivePage {
             view: to.view,
@@ -73,8 +73,8 @@ impl LivePage {
         value: &Value,
         rest: &mut Rest,
     ) -> Result<Part, PageFault>
-        ensures { (w : List Waiting) (p : Page) → StandsFor app.now.compiled self.old p → CountsFree w rest.old
-            → Turns app.now.compiled w p (view_turn (world_of V.meaning app.now) p ((world_of V.meaning app.now).views.handle_event (of_view p.view) event.now (view value.now) p.assigns) (rest_view w rest.old)) self.new result rest.new }
+        ensures { (w : List Waiting) (p : Page) → StandsFor app.now.page self.old p → CountsFree w rest.old
+            → Turns app.now.page w p (view_turn (world_of V.meaning app.now) p ((world_of V.meaning app.now).views.handle_event (of_view p.view) event.now (view value.now) p.assigns) (rest_view w rest.old)) self.new result rest.new }
     {
         let owner = Owner::View(self.view);
         let effects = app
@@ -92,8 +92,8 @@ impl LivePage {
         params: &Value,
         rest: &mut Rest,
     ) -> Result<Part, PageFault>
-        ensures { (w : List Waiting) (p : Page) → StandsFor app.now.compiled self.old p → CountsFree w rest.old
-            → Turns app.now.compiled w p (view_turn (world_of V.meaning app.now) p ((world_of V.meaning app.now).views.handle_params p.view (view params.now) p.assigns) (rest_view w rest.old)) self.new result rest.new }
+        ensures { (w : List Waiting) (p : Page) → StandsFor app.now.page self.old p → CountsFree w rest.old
+            → Turns app.now.page w p (view_turn (world_of V.meaning app.now) p ((world_of V.meaning app.now).views.handle_params p.view (view params.now) p.assigns) (rest_view w rest.old)) self.new result rest.new }
     {
         let effects = app
             .views
@@ -109,8 +109,8 @@ impl LivePage {
         message: &Value,
         rest: &mut Rest,
     ) -> Result<Part, PageFault>
-        ensures { (w : List Waiting) (p : Page) → StandsFor app.now.compiled self.old p → CountsFree w rest.old
-            → Turns app.now.compiled w p (view_turn (world_of V.meaning app.now) p ((world_of V.meaning app.now).views.handle_info p.view (view message.now) p.assigns) (rest_view w rest.old)) self.new result rest.new }
+        ensures { (w : List Waiting) (p : Page) → StandsFor app.now.page self.old p → CountsFree w rest.old
+            → Turns app.now.page w p (view_turn (world_of V.meaning app.now) p ((world_of V.meaning app.now).views.handle_info p.view (view message.now) p.assigns) (rest_view w rest.old)) self.new result rest.new }
     {
         let effects = app
             .views
@@ -126,12 +126,12 @@ impl LivePage {
         effects: Effects,
         rest: &mut Rest,
     ) -> Result<Part, PageFault>
-        ensures { (w : List Waiting) (p : Page) → StandsFor app.now.compiled self.old p → CountsFree w rest.old
-            → Turns app.now.compiled w p (view_turn (world_of V.meaning app.now) p (Some (effects_view effects)) (rest_view w rest.old)) self.new result rest.new }
+        ensures { (w : List Waiting) (p : Page) → StandsFor app.now.page self.old p → CountsFree w rest.old
+            → Turns app.now.page w p (view_turn (world_of V.meaning app.now) p (Some (effects_view effects)) (rest_view w rest.old)) self.new result rest.new }
     {
         apply_effects(alloc, effects, &mut self.assigns, rest)?;
         let prints = mem::replace(&mut self.prints, Seq::new(alloc));
-        let (diff, prints) = next(alloc, &app.compiled, &self.assigns, prints)?;
+        let (diff, prints) = next(alloc, &app.page, &self.assigns, prints)?;
         self.prints = prints;
         self.assigns.settle();
         Ok(diff)

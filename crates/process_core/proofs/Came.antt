@@ -5,7 +5,8 @@ use Rattle.value_core.specs.View.{view}
 use Rattle.value_core.specs.declared.value.Value.{Value as Stored}
 use Rattle.view_api.specs.Meaning.{HandlerMeaning}
 use Rattle.ast_core.specs.Places.{cut}
-use Rattle.slot_compile.specs.Template.{Source, syntax_of}
+use Rattle.bundle_compile.specs.Page.{root_of}
+use Rattle.bundle_compile.specs.declared.page.CompiledView.{CompiledView}
 use Rattle.diff_tree.specs.Client.{PageTree}
 use Rattle.diff_tree.specs.Frame.{refusal, rendered}
 use Rattle.diff_tree.specs.Spelling.{Pushed}
@@ -72,13 +73,13 @@ joined_of world r j j' t t' x x' j_is t_is x_is =
     ap (λ k. joined_page world r k t x) j_is ∙ ap (λ u. joined_page world r j' u x) t_is ∙ ap (λ y. joined_page world r j' t' y) x_is
 
 -- a first page that does not come up
-pub begins_fault : (template : Source) (w : List Waiting) (given : Res Given) (f : PageFault) (rest : Beside) → Joins template w given (Err f) rest → Begins template w given (Err f)
-begins_fault template w given fault.Raised rest h = h
-begins_fault template w given fault.OutOfMemory rest h = h
+pub begins_fault : (compiled : CompiledView) (w : List Waiting) (given : Res Given) (f : PageFault) (rest : Beside) → Joins compiled w given (Err f) rest → Begins compiled w given (Err f)
+begins_fault compiled w given fault.Raised rest h = h
+begins_fault compiled w given fault.OutOfMemory rest h = h
 
 -- a first page that raises
-pub begins_raised : (template : Source) (w : List Waiting) (given : Res Given) (f : PageFault) → f ≡ fault.Raised → Begins template w given (Err f) → IsErr given
-begins_raised template w given f is = subst (λ x. Begins template w given (Err x)) is
+pub begins_raised : (compiled : CompiledView) (w : List Waiting) (given : Res Given) (f : PageFault) → f ≡ fault.Raised → Begins compiled w given (Err f) → IsErr given
+begins_raised compiled w given f is = subst (λ x. Begins compiled w given (Err x)) is
 
 module _ {V : Type 0} (meaning : V → HandlerMeaning) (app : App V) (h : MessageHead) (r : Route) (w : List Waiting) (g : ℕ) where
   abbrev pub begun : Res Given
@@ -95,33 +96,33 @@ module _ {V : Type 0} (meaning : V → HandlerMeaning) (app : App V) (h : Messag
   abbrev pub kept_with : Joined → Process
   kept_with joined = record { generation = g; up = Some (record { page = joined.page; last_words = last_words_of joined.page }) }
 
-  up_keeps : (joined : Joined) → (l : Leaves app.compiled w begun (whole_json app.compiled) joined.page joined.rest joined.tree) → Keeps app.compiled (kept_with joined) (state_with l.outcome).state
+  up_keeps : (joined : Joined) → (l : Leaves app.page w begun (whole_json app.page) joined.page joined.rest joined.tree) → Keeps app.page (kept_with joined) (state_with l.outcome).state
   up_keeps joined l = record {
     generation = refl;
     up = record { stands = l.stands; ready = ap (λ q. spelled (fault_frames (Some q) (Some (codes "out of memory")))) (sym l.stands.is) };
   }
 
-  generation_is : (joined : Joined) → (l : Leaves app.compiled w begun (whole_json app.compiled) joined.page joined.rest joined.tree) → joined.rest.generation ≡ g
+  generation_is : (joined : Joined) → (l : Leaves app.page w begun (whole_json app.page) joined.page joined.rest joined.tree) → joined.rest.generation ≡ g
   generation_is joined l = sym (ap (λ (x : Rest). x.generation) l.rest_is) ∙ subst (StaysOn g) l.given_is (joined_stays meaning app r h.join_reference h.topic (rest_of g w))
 
   abbrev waits_with : ℕ → List Stored → List Waiting
   waits_with n vs = w ++ map (λ v. sent n (view v)) vs
 
-  up_waits : (joined : Joined) (kept : Process) (o : Outcome) → (l : Leaves app.compiled w begun (whole_json app.compiled) joined.page joined.rest joined.tree) → Came joined g h kept o → l.outcome.rest.inbox ≡ waits_with g o.sent
+  up_waits : (joined : Joined) (kept : Process) (o : Outcome) → (l : Leaves app.page w begun (whole_json app.page) joined.page joined.rest joined.tree) → Came joined g h kept o → l.outcome.rest.inbox ≡ waits_with g o.sent
   up_waits joined kept o l came =
       ap (λ (x : Rest). x.inbox) l.rest_is ∙ ap (λ n. waits_with n joined.rest.sent) (generation_is joined l) ∙ ap (λ vs. waits_with g vs) (sym came.sent)
 
   abbrev frames_with : PageTree → List Pushed → List (List ℕ)
   frames_with p es = spelled (reply_to h (rendered p es) ∷ [])
 
-  up_frames : (joined : Joined) (kept : Process) (o : Outcome) → (l : Leaves app.compiled w begun (whole_json app.compiled) joined.page joined.rest joined.tree) → Came joined g h kept o
-      → o.frames ≡ frames_with (whole_tree (cut (syntax_of app.compiled)) l.outcome.page.met) l.outcome.rest.pushed
+  up_frames : (joined : Joined) (kept : Process) (o : Outcome) → (l : Leaves app.page w begun (whole_json app.page) joined.page joined.rest joined.tree) → Came joined g h kept o
+      → o.frames ≡ frames_with (whole_tree (cut (root_of app.page)) l.outcome.page.met) l.outcome.rest.pushed
   up_frames joined kept o l came =
-      came.frames (whole_tree (cut (syntax_of app.compiled)) l.outcome.page.met) (l.sends ∙ page_is_root app.compiled (present joined.page.assigns) l.outcome.page.met l.stands.met)
-      ∙ ap (λ (x : Rest). frames_with (whole_tree (cut (syntax_of app.compiled)) l.outcome.page.met) x.pushed) (sym l.rest_is)
+      came.frames (whole_tree (cut (root_of app.page)) l.outcome.page.met) (l.sends ∙ page_is_root app.page (present joined.page.assigns) l.outcome.page.met l.stands.met)
+      ∙ ap (λ (x : Rest). frames_with (whole_tree (cut (root_of app.page)) l.outcome.page.met) x.pushed) (sym l.rest_is)
 
-  up_answers : (joined : Joined) (kept : Process) (o : Outcome) → (l : Leaves app.compiled w begun (whole_json app.compiled) joined.page joined.rest joined.tree) → Came joined g h kept o
-      → Answers app.compiled w (state_with l.outcome) (kept_with joined) o
+  up_answers : (joined : Joined) (kept : Process) (o : Outcome) → (l : Leaves app.page w begun (whole_json app.page) joined.page joined.rest joined.tree) → Came joined g h kept o
+      → Answers app.page w (state_with l.outcome) (kept_with joined) o
   up_answers joined kept o l came = record {
     keeps = up_keeps joined l;
     waits = up_waits joined kept o l came;
@@ -131,10 +132,10 @@ module _ {V : Type 0} (meaning : V → HandlerMeaning) (app : App V) (h : Messag
   }
 
   -- a page has come up
-  pub up_is : (joined : Joined) (kept : Process) (o : Outcome) (s : ProcessState) → suc s.generation ≡ g → Leaves app.compiled w begun (whole_json app.compiled) joined.page joined.rest joined.tree → Came joined g h kept o
-      → Answers app.compiled w (step_join (world_of meaning app) s w h (Some r)) kept o
+  pub up_is : (joined : Joined) (kept : Process) (o : Outcome) (s : ProcessState) → suc s.generation ≡ g → Leaves app.page w begun (whole_json app.page) joined.page joined.rest joined.tree → Came joined g h kept o
+      → Answers app.page w (step_join (world_of meaning app) s w h (Some r)) kept o
   up_is joined kept o s is l came =
-      answers_by app.compiled w (step_join (world_of meaning app) s w h (Some r)) (state_with l.outcome) kept (kept_with joined) o o
+      answers_by app.page w (step_join (world_of meaning app) s w h (Some r)) (state_with l.outcome) kept (kept_with joined) o o
       (step_is s is ∙ ap (λ x. after_join (world_of meaning app) g h w r x) l.given_is) came.kept_is refl (up_answers joined kept o l came)
 
   -- a join that raises
@@ -143,8 +144,8 @@ module _ {V : Type 0} (meaning : V → HandlerMeaning) (app : App V) (h : Messag
   crashed_by (Ok o) fails = absurd (true≢false (sym fails))
 
   pub down_is : (kept : Process) (o : Outcome) (s : ProcessState) → suc s.generation ≡ g → IsErr begun → Crashed g (spelled (reply_to h (refusal (codes "join crashed")) ∷ [])) kept o
-      → Answers app.compiled w (step_join (world_of meaning app) s w h (Some r)) kept o
+      → Answers app.page w (step_join (world_of meaning app) s w h (Some r)) kept o
   down_is kept o s is fails crashed =
       let fs = reply_to h (refusal (codes "join crashed")) ∷ [] in
-      answers_by app.compiled w (step_join (world_of meaning app) s w h (Some r)) (goes_down g w fs true) kept (record { generation = g; up = None }) o (frames_only (spelled fs) true)
-      (step_is s is ∙ crashed_by begun fails) crashed.kept_is crashed.told (down app.compiled g w fs true)
+      answers_by app.page w (step_join (world_of meaning app) s w h (Some r)) (goes_down g w fs true) kept (record { generation = g; up = None }) o (frames_only (spelled fs) true)
+      (step_is s is ∙ crashed_by begun fails) crashed.kept_is crashed.told (down app.page g w fs true)

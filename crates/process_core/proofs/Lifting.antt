@@ -3,7 +3,7 @@ use Rattle.std.proofs.Common.{◌≡◌, ℕ, List, [], ◌∷◌, ◌++◌, map
 use Rattle.std.proofs.lemmas.List.{append-nil}
 use Rattle.value_core.specs.View.{view}
 use Rattle.value_core.specs.declared.value.Value.{Value as Stored}
-use Rattle.slot_compile.specs.Template.{Source}
+use Rattle.bundle_compile.specs.declared.page.CompiledView.{CompiledView}
 use Rattle.diff_tree.specs.Frame.{faulted}
 use Rattle.effects_apply.specs.Applied.{action_view}
 use Rattle.doc_model.specs.Effects.{Waiting, sent}
@@ -25,14 +25,14 @@ abbrev at_option : (ProcessState → List Waiting → Page → Stepped) → Proc
 at_option step s w q = elim q [ None ↦ unchanged s w [] | Some p ↦ step s w p ]
 
 -- where nothing is up
-pub lift_down : (template : Source) (before after : Process) (free : ℕ) (step : ProcessState → List Waiting → Page → Stepped) (o : Outcome) → before.up ≡ None → after ≡ before
-    → o ≡ record { frames = []; sent = []; actions = []; crashed = false } → AnswersStep template before free (at_page step) after o
-lift_down template before after free step o down same is s w keeps fits =
-    by s.page refl (subst (λ u. UpStands template u s.page) down keeps.up)
+pub lift_down : (compiled : CompiledView) (before after : Process) (free : ℕ) (step : ProcessState → List Waiting → Page → Stepped) (o : Outcome) → before.up ≡ None → after ≡ before
+    → o ≡ record { frames = []; sent = []; actions = []; crashed = false } → AnswersStep compiled before free (at_page step) after o
+lift_down compiled before after free step o down same is s w keeps fits =
+    by s.page refl (subst (λ u. UpStands compiled u s.page) down keeps.up)
   where
-    by : (q : Option Page) → s.page ≡ q → UpStands template None q → Answers template w (at_page step s w) after o
-    by None none up = subst (λ q. Answers template w (at_option step s w q) after o) (sym none) (record {
-      keeps = subst (λ k. Keeps template k s) (sym same) keeps;
+    by : (q : Option Page) → s.page ≡ q → UpStands compiled None q → Answers compiled w (at_page step s w) after o
+    by None none up = subst (λ q. Answers compiled w (at_option step s w q) after o) (sym none) (record {
+      keeps = subst (λ k. Keeps compiled k s) (sym same) keeps;
       waits = sym (append-nil w) ∙ ap (λ (l : List Stored). w ++ map (λ v. sent after.generation (view v)) l) (sym (ap (λ (x : Outcome). x.sent) is));
       frames = ap (λ (x : Outcome). x.frames) is;
       actions = ap (map action_view) (sym (ap (λ (x : Outcome). x.actions) is));
@@ -41,12 +41,12 @@ lift_down template before after free step o down same is s w keeps fits =
     by (Some p) some up = absurd up
 
 -- what stays up
-still : (template : Source) (u : Up) (page : LivePage) (p : Page) (q : Option Page) (crashed : Bool) (up : Option Up) → UpFor template u p → StaysUp template page p q crashed
-    → up ≡ (if crashed then None else Some (record { page = page; last_words = u.last_words })) → UpStands template up q
-still template u page p None crashed up was fell is =
-    subst (λ x. UpStands template x None) (sym (is ∙ ap (λ b. if b then None else Some (record { page = page; last_words = u.last_words })) fell)) tt
-still template u page p (Some q) crashed up was stays is =
-    subst (λ x. UpStands template x (Some q)) (sym (is ∙ ap (λ b. if b then None else Some (record { page = page; last_words = u.last_words })) stays.0))
+still : (compiled : CompiledView) (u : Up) (page : LivePage) (p : Page) (q : Option Page) (crashed : Bool) (up : Option Up) → UpFor compiled u p → StaysUp compiled page p q crashed
+    → up ≡ (if crashed then None else Some (record { page = page; last_words = u.last_words })) → UpStands compiled up q
+still compiled u page p None crashed up was fell is =
+    subst (λ x. UpStands compiled x None) (sym (is ∙ ap (λ b. if b then None else Some (record { page = page; last_words = u.last_words })) fell)) tt
+still compiled u page p (Some q) crashed up was stays is =
+    subst (λ x. UpStands compiled x (Some q)) (sym (is ∙ ap (λ b. if b then None else Some (record { page = page; last_words = u.last_words })) stays.0))
     (record {
       stands = stays.1;
       ready = was.ready ∙ ap (λ j. spelled (frame_of j j p.topic (faulted (Some (codes "out of memory"))) ∷ [])) (sym stays.2)
@@ -54,18 +54,18 @@ still template u page p (Some q) crashed up was stays is =
     })
 
 -- where a page is up
-pub lift_up : (template : Source) (before after : Process) (u : Up) (page : LivePage) (free : ℕ) (step : ProcessState → List Waiting → Page → Stepped) (o : Outcome) → before.up ≡ Some u
+pub lift_up : (compiled : CompiledView) (before after : Process) (u : Up) (page : LivePage) (free : ℕ) (step : ProcessState → List Waiting → Page → Stepped) (o : Outcome) → before.up ≡ Some u
     → after.generation ≡ before.generation → after.up ≡ (if o.crashed then None else Some (record { page = page; last_words = u.last_words }))
-    → AnswersPage template u.page before.generation free step page o → AnswersStep template before free (at_page step) after o
-lift_up template before after u page free step o is_up generation up_after answers s w keeps fits =
-    by s.page refl (subst (λ x. UpStands template x s.page) is_up keeps.up)
+    → AnswersPage compiled u.page before.generation free step page o → AnswersStep compiled before free (at_page step) after o
+lift_up compiled before after u page free step o is_up generation up_after answers s w keeps fits =
+    by s.page refl (subst (λ x. UpStands compiled x s.page) is_up keeps.up)
   where
-    by : (q : Option Page) → s.page ≡ q → UpStands template (Some u) q → Answers template w (at_page step s w) after o
+    by : (q : Option Page) → s.page ≡ q → UpStands compiled (Some u) q → Answers compiled w (at_page step s w) after o
     by None none up = absurd up
-    by (Some p) some up = subst (λ q. Answers template w (at_option step s w q) after o) (sym some) (record {
+    by (Some p) some up = subst (λ q. Answers compiled w (at_option step s w q) after o) (sym some) (record {
       keeps = record {
         generation = a.generation ∙ sym generation;
-        up = still template u page p (step s w p).state.page o.crashed after.up up a.up up_after;
+        up = still compiled u page p (step s w p).state.page o.crashed after.up up a.up up_after;
       };
       waits = a.waits ∙ ap (λ g. w ++ map (λ v. sent g (view v)) o.sent) (sym generation);
       frames = a.frames;
@@ -73,5 +73,5 @@ lift_up template before after u page free step o is_up generation up_after answe
       crashed = a.crashed;
     })
       where
-        a : PageAnswers template before.generation w p (step s w p) page o
+        a : PageAnswers compiled before.generation w p (step s w p) page o
         a = answers s w p keeps.generation some up.stands fits

@@ -6,7 +6,8 @@ use Rattle.std.specs.Fmt.{decimal}
 use Rattle.serde_json.specs.Data.{Data, array, object, Items as Listed, Members, no_members, member, put}
 use Rattle.text_core.specs.declared.by_key.KeyValue.{KeyValue}
 use Rattle.value_core.specs.Value.{Assigns, no_assigns}
-use Rattle.slot_compile.specs.Template.{Source, syntax_of}
+use Rattle.bundle_compile.specs.Page.{root_of, site_of_view}
+use Rattle.bundle_compile.specs.declared.page.CompiledView.{CompiledView}
 use Rattle.diff_tree.specs.Container.{is_none}
 use Rattle.diff_tree.specs.Client.{PageDiff, PageTree}
 use Rattle.diff_tree.specs.Tree.{Changes, no_changes, skip, change}
@@ -30,17 +31,19 @@ use Rattle.doc_model.specs.Components.{parts, lean_parts, lean_diff}
 use Rattle.doc_model.specs.Process.{levels, no_difference}
 use Rattle.doc_model.proofs.Results.{On}
 use Rattle.diff_render.specs.Renders.{Meets}
-use Rattle.diff_render.specs.Scope.{alone, scope_of}
+use Rattle.diff_render.specs.Scope.{scope_of}
+use Rattle.live_page.proofs.Rendered.{plain_page}
 use Rattle.process_core.proofs.Parts.{NoParts, plain_parts}
 
 -- such a page meets no component
-pub no_parts : (source : Source) (as' : Assigns) (is : Items) → Meets source as' (Ok is) → parts is ≡ []
-no_parts source as' is h =
-    subst (On NoParts) (h.is alone (scope_of as' no_assigns) refl refl) (plain_parts alone levels (scope_of as' no_assigns) (syntax_of source) h.plain)
+pub no_parts : (page : CompiledView) (as' : Assigns) (is : Items) → Meets page as' (Ok is) → parts is ≡ []
+no_parts page as' is h =
+    subst (On NoParts) (h.is (scope_of as' no_assigns) refl refl)
+    (plain_parts (site_of_view page) (plain_page page) levels (scope_of as' no_assigns) (root_of page) ((plain_page page).templates page.template))
 
 -- and its diff has none
-pub plain_diff : (source : Source) (as' : Assigns) (old is : Items) → Meets source as' (Ok is) → (lean_diff old is).components ≡ []
-plain_diff source as' old is h = ap (lean_parts (parts old)) (no_parts source as' is h)
+pub plain_diff : (page : CompiledView) (as' : Assigns) (old is : Items) → Meets page as' (Ok is) → (lean_diff old is).components ≡ []
+plain_diff page as' old is h = ap (lean_parts (parts old)) (no_parts page as' is h)
 
 -- a member that was put is there
 put_some : (k : List ℕ) (d : Data) (ms : Members) → is_empty_object (object (put k d ms)) ≡ false

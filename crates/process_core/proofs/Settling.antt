@@ -6,7 +6,7 @@ use Rattle.value_core.specs.View.{view}
 use Rattle.value_core.specs.declared.value.Value.{Value as Stored}
 use Rattle.view_api.specs.Effect.{Effect}
 use Rattle.view_api.specs.Meaning.{HandlerMeaning}
-use Rattle.slot_compile.specs.Template.{Source}
+use Rattle.bundle_compile.specs.declared.page.CompiledView.{CompiledView}
 use Rattle.diff_tree.specs.declared.part.Part.{Part}
 use Rattle.diff_tree.specs.Client.{PageDiff}
 use Rattle.diff_tree.specs.Frame.{Frame, faulted}
@@ -62,11 +62,11 @@ begun_counts : (w : List Waiting) (g free : ℕ) (r : Beside) → Begun g free r
 begun_counts w g free r b fits = ap (λ (x : Rest). length x.inbox + r.free) (begun_view w g free r b) ∙ ap (λ n. length w + n) b.free ∙ fits
 
 -- nothing but frames, and what is up stays up
-pub stays : (template : Source) (g : ℕ) (s : ProcessState) (w : List Waiting) (p : Page) (u : LivePage) (fs : List Frame) (o : Given) → s.generation ≡ g → s.page ≡ Some p → StandsFor template u p
-    → o.frames ≡ spelled fs → o.sent ≡ [] → o.actions ≡ [] → o.crashed ≡ false → PageAnswers template g w p (unchanged s w fs) u o
-stays template g s w p u fs o generation page stands frames none_sent no_actions not_crashed = record {
+pub stays : (compiled : CompiledView) (g : ℕ) (s : ProcessState) (w : List Waiting) (p : Page) (u : LivePage) (fs : List Frame) (o : Given) → s.generation ≡ g → s.page ≡ Some p → StandsFor compiled u p
+    → o.frames ≡ spelled fs → o.sent ≡ [] → o.actions ≡ [] → o.crashed ≡ false → PageAnswers compiled g w p (unchanged s w fs) u o
+stays compiled g s w p u fs o generation page stands frames none_sent no_actions not_crashed = record {
   generation = generation;
-  up = subst (λ q. StaysUp template u p q o.crashed) (sym page) (not_crashed, stands, refl, refl);
+  up = subst (λ q. StaysUp compiled u p q o.crashed) (sym page) (not_crashed, stands, refl, refl);
   waits = sym (append-nil w) ∙ ap (λ (l : List Stored). w ++ map (λ v. sent g (view v)) l) (sym none_sent);
   frames = frames;
   actions = ap (map action_view) (sym no_actions);
@@ -74,25 +74,25 @@ stays template g s w p u fs o generation page stands frames none_sent no_actions
 }
 
 -- the same with no frame
-pub quiet : (template : Source) (g : ℕ) (s : ProcessState) (w : List Waiting) (p : Page) (u : LivePage) (o : Given) → s.generation ≡ g → s.page ≡ Some p → StandsFor template u p
-    → o ≡ record { frames = []; sent = []; actions = []; crashed = false } → PageAnswers template g w p (unchanged s w []) u o
-quiet template g s w p u o generation page stands is =
-    stays template g s w p u [] o generation page stands (ap (λ (x : Given). x.frames) is) (ap (λ (x : Given). x.sent) is) (ap (λ (x : Given). x.actions) is) (ap (λ (x : Given). x.crashed) is)
+pub quiet : (compiled : CompiledView) (g : ℕ) (s : ProcessState) (w : List Waiting) (p : Page) (u : LivePage) (o : Given) → s.generation ≡ g → s.page ≡ Some p → StandsFor compiled u p
+    → o ≡ record { frames = []; sent = []; actions = []; crashed = false } → PageAnswers compiled g w p (unchanged s w []) u o
+quiet compiled g s w p u o generation page stands is =
+    stays compiled g s w p u [] o generation page stands (ap (λ (x : Given). x.frames) is) (ap (λ (x : Given). x.sent) is) (ap (λ (x : Given). x.actions) is) (ap (λ (x : Given). x.crashed) is)
 
 -- whether a message is of the page's join is seen from what is kept
-pub fresh_is : (template : Source) (u : LivePage) (p : Page) (h : MessageHead) (b : Bool) → StandsFor template u p → b ≡ (same_reference h.join_reference u.join_ref && bytes_eq h.topic u.topic) → is_of p h ≡ b
-fresh_is template u p h b stands is = ap (λ (x : Page). is_of x h) stands.is ∙ sym is
+pub fresh_is : (compiled : CompiledView) (u : LivePage) (p : Page) (h : MessageHead) (b : Bool) → StandsFor compiled u p → b ≡ (same_reference h.join_reference u.join_ref && bytes_eq h.topic u.topic) → is_of p h ≡ b
+fresh_is compiled u p h b stands is = ap (λ (x : Page). is_of x h) stands.is ∙ sym is
 
 module _ {V : Type 0} (meaning : V → HandlerMeaning) (app : App V) where
-  abbrev template : Source
-  template = app.compiled
+  abbrev compiled : CompiledView
+  compiled = app.page
 
   abbrev given : Page → Option (List Effect) → Rest → Res Outcome
   given p asks r = view_turn (world_of meaning app) p asks r
 
   -- the frames that were spelled are those that are meant, where what is kept stands for a page of the same join
   abbrev pub Agrees : LivePage → Page → FramesOf → FramesOf → Type 0
-  Agrees after p spelt frames = (q : Page) → StandsFor template after q → q.join_reference ≡ p.join_reference → q.topic ≡ p.topic → spelt ≡ frames
+  Agrees after p spelt frames = (q : Page) → StandsFor compiled after q → q.join_reference ≡ p.join_reference → q.topic ≡ p.topic → spelt ≡ frames
 
   -- those of a push
   pub push_agrees : (after : LivePage) (p : Page) → Agrees after p (push_under after.join_ref after.topic) (push_frames p)
@@ -102,14 +102,14 @@ module _ {V : Type 0} (meaning : V → HandlerMeaning) (app : App V) where
 
   -- a turn that raised nothing
   went : (u after : LivePage) (g : ℕ) (s : ProcessState) (w : List Waiting) (p : Page) (spelt frames : FramesOf) (asks : Option (List Effect)) (begun : Rest) (rest : Beside) (part : Part) (o : Given)
-      → s.generation ≡ g → StandsFor template u p → Agrees after p spelt frames → begun ≡ rest_of s.generation w → Leaves template w (given p asks begun) (lean_json p.met) after rest part
-      → SumsUp spelt part rest o → PageAnswers template g w p (after_turn s p w frames (given p asks (rest_of s.generation w))) after o
+      → s.generation ≡ g → StandsFor compiled u p → Agrees after p spelt frames → begun ≡ rest_of s.generation w → Leaves compiled w (given p asks begun) (lean_json p.met) after rest part
+      → SumsUp spelt part rest o → PageAnswers compiled g w p (after_turn s p w frames (given p asks (rest_of s.generation w))) after o
   went u after g s w p spelt frames asks begun rest part o generation stands agrees starts leaves sums =
-      subst (λ (q : Res Outcome). PageAnswers template g w p (after_turn s p w frames q) after o) (sym is) (record {
+      subst (λ (q : Res Outcome). PageAnswers compiled g w p (after_turn s p w frames q) after o) (sym is) (record {
         generation = generation;
         up = (sums.3, leaves.stands, same_reference_still, same_topic_still);
         waits = ap (λ (r : Rest). r.inbox) leaves.rest_is ∙ ap (λ n. w ++ map (λ v. sent n (view v)) rest.sent) same ∙ ap (λ (l : List Stored). w ++ map (λ v. sent g (view v)) l) (sym sums.1);
-        frames = sums.0 diff (plain_diff template (present after.assigns) p.met leaves.outcome.page.met leaves.stands.met) leaves.sends
+        frames = sums.0 diff (plain_diff compiled (present after.assigns) p.met leaves.outcome.page.met leaves.stands.met) leaves.sends
             ∙ ap (λ (f : FramesOf). spelled (f diff (map pushed_of rest.pushed))) (agrees leaves.outcome.page leaves.stands same_reference_still same_topic_still)
             ∙ ap (λ es. spelled (frames diff es)) (sym (ap (λ (r : Rest). r.pushed) leaves.rest_is));
         actions = ap (λ (r : Rest). r.actions) leaves.rest_is ∙ ap (map action_view) (sym sums.2);
@@ -136,12 +136,12 @@ module _ {V : Type 0} (meaning : V → HandlerMeaning) (app : App V) where
 
   -- a turn that raised
   fell : (u after : LivePage) (g : ℕ) (s : ProcessState) (w : List Waiting) (p : Page) (frames : FramesOf) (asks : Option (List Effect)) (begun : Rest) (last : List (List ℕ)) (o : Given)
-      → s.generation ≡ g → StandsFor template u p → begun ≡ rest_of s.generation w → last ≡ spelled (frame_of u.join_ref u.join_ref u.topic (faulted None) ∷ []) → IsErr (given p asks begun)
-      → o ≡ record { frames = last; sent = []; actions = []; crashed = true } → PageAnswers template g w p (after_turn s p w frames (given p asks (rest_of s.generation w))) after o
+      → s.generation ≡ g → StandsFor compiled u p → begun ≡ rest_of s.generation w → last ≡ spelled (frame_of u.join_ref u.join_ref u.topic (faulted None) ∷ []) → IsErr (given p asks begun)
+      → o ≡ record { frames = last; sent = []; actions = []; crashed = true } → PageAnswers compiled g w p (after_turn s p w frames (given p asks (rest_of s.generation w))) after o
   fell u after g s w p frames asks begun last o generation stands starts last_is raised is =
       by (given p asks (rest_of s.generation w)) (subst (λ (r : Rest). IsErr (given p asks r)) starts raised)
     where
-      by : (q : Res Outcome) → IsErr q → PageAnswers template g w p (after_turn s p w frames q) after o
+      by : (q : Res Outcome) → IsErr q → PageAnswers compiled g w p (after_turn s p w frames q) after o
       by (Ok a) no_err = let no : false ≡ true = no_err in cc
       by (Err e) no_err = record {
         generation = generation;
@@ -154,15 +154,15 @@ module _ {V : Type 0} (meaning : V → HandlerMeaning) (app : App V) where
 
   -- a turn
   pub turn_answers : (u after : LivePage) (g free : ℕ) (s : ProcessState) (w : List Waiting) (p : Page) (spelt frames : FramesOf) (asks : Option (List Effect)) (begun rest : Beside) (turn : Result Part PageFault) (last : List (List ℕ)) (o : Given)
-      → s.generation ≡ g → StandsFor template u p → Agrees after p spelt frames → Fits w free → Begun g free begun → last ≡ spelled (frame_of u.join_ref u.join_ref u.topic (faulted None) ∷ [])
-      → (CountsFree w begun → Turns template w p (given p asks (rest_view w begun)) after turn rest) → Sums spelt turn rest last o
-      → PageAnswers template g w p (after_turn s p w frames (given p asks (rest_of s.generation w))) after o
+      → s.generation ≡ g → StandsFor compiled u p → Agrees after p spelt frames → Fits w free → Begun g free begun → last ≡ spelled (frame_of u.join_ref u.join_ref u.topic (faulted None) ∷ [])
+      → (CountsFree w begun → Turns compiled w p (given p asks (rest_view w begun)) after turn rest) → Sums spelt turn rest last o
+      → PageAnswers compiled g w p (after_turn s p w frames (given p asks (rest_of s.generation w))) after o
   turn_answers u after g free s w p spelt frames asks begun rest turn last o generation stands agrees fits begins last_is turns = by turn (turns (begun_counts w g free begun begins fits))
     where
       starts : rest_view w begun ≡ rest_of s.generation w
       starts = begun_view w g free begun begins ∙ ap (λ n. rest_of n w) (sym generation)
 
-      by : (t : Result Part PageFault) → Turns template w p (given p asks (rest_view w begun)) after t rest → Sums spelt t rest last o → PageAnswers template g w p (after_turn s p w frames (given p asks (rest_of s.generation w))) after o
+      by : (t : Result Part PageFault) → Turns compiled w p (given p asks (rest_view w begun)) after t rest → Sums spelt t rest last o → PageAnswers compiled g w p (after_turn s p w frames (given p asks (rest_of s.generation w))) after o
       by (Ok part) leaves sums = went u after g s w p spelt frames asks (rest_view w begun) rest part o generation stands agrees starts leaves sums
       by (Err fault.Raised) raised sums = fell u after g s w p frames asks (rest_view w begun) last o generation stands starts last_is raised sums
       by (Err fault.OutOfMemory) free_of sums = absurd sums

@@ -83,7 +83,7 @@ module _ {V : Type 0} (meaning : V → HandlerMeaning) (app : App V) where
   shown v j t as' r (Err e) = tt
 
   -- after effects
-  acted : (u : LivePage) (p : Page) → StandsFor app.compiled u p → (es : List Effect) (r0 : Rest) → Keeping u.join_ref u.topic r0.generation (view_turn (world_of meaning app) p (Some es) r0)
+  acted : (u : LivePage) (p : Page) → StandsFor app.page u p → (es : List Effect) (r0 : Rest) → Keeping u.join_ref u.topic r0.generation (view_turn (world_of meaning app) p (Some es) r0)
   acted u p stands es r0 = by (apply_effects es start) refl (all_effects es start)
     where
       start : Applied
@@ -103,6 +103,6 @@ module _ {V : Type 0} (meaning : V → HandlerMeaning) (app : App V) where
           ∙ ap (λ q. then_do q (λ a. rendered_page (world_of meaning app) p.view p.join_reference p.topic (turning_view p.components p.next a))) is)) tt
 
   -- whatever its handler asks
-  pub turn_keeps : (u : LivePage) (p : Page) → StandsFor app.compiled u p → (asked : Option (List Effect)) (r0 : Rest) → Keeping u.join_ref u.topic r0.generation (view_turn (world_of meaning app) p asked r0)
+  pub turn_keeps : (u : LivePage) (p : Page) → StandsFor app.page u p → (asked : Option (List Effect)) (r0 : Rest) → Keeping u.join_ref u.topic r0.generation (view_turn (world_of meaning app) p asked r0)
   turn_keeps u p stands None r0 = tt
   turn_keeps u p stands (Some es) r0 = acted u p stands es r0

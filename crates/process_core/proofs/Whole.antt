@@ -3,7 +3,8 @@ use Rattle.std.proofs.Common.{◌≡◌, ℕ, List, [], Ok, sym, ap}
 use Rattle.serde_json.specs.Data.{Data}
 use Rattle.value_core.specs.Value.{Assigns}
 use Rattle.ast_core.specs.Places.{cut}
-use Rattle.slot_compile.specs.Template.{Source, syntax_of}
+use Rattle.bundle_compile.specs.Page.{root_of}
+use Rattle.bundle_compile.specs.declared.page.CompiledView.{CompiledView}
 use Rattle.diff_tree.specs.Tree.{node}
 use Rattle.diff_tree.specs.Spelling.{page_tree_json}
 use Rattle.diff_render.specs.Renders.{Meets, whole_json}
@@ -17,5 +18,5 @@ abbrev with_parts : List (List ℕ) → Items → List Part → Data
 with_parts st is ps = page_tree_json (record { root = node st (whole_places is); numbers = part_numbers ps; component = λ n. option_tree (part_at n ps) }) []
 
 -- where no component is met, the page is its root
-pub page_is_root : (template : Source) (as' : Assigns) (is : Items) → Meets template as' (Ok is) → whole_json template is ≡ page_tree_json (whole_tree (cut (syntax_of template)) is) []
-page_is_root template as' is h = sym (ap (with_parts (cut (syntax_of template)) is) (no_parts template as' is h))
+pub page_is_root : (compiled : CompiledView) (as' : Assigns) (is : Items) → Meets compiled as' (Ok is) → whole_json compiled is ≡ page_tree_json (whole_tree (cut (root_of compiled)) is) []
+page_is_root compiled as' is h = sym (ap (with_parts (cut (root_of compiled)) is) (no_parts compiled as' is h))

@@ -1,6 +1,6 @@
 -- What the parts of a join give.
 use Rattle.std.specs.Prelude.{◌≡◌, ℕ, List, [], ◌∷◌, map, Some, None, Result, Ok, Err, IsErr, Bool, true, false, codes}
-use Rattle.slot_compile.specs.Template.{Source}
+use Rattle.bundle_compile.specs.declared.page.CompiledView.{CompiledView}
 use Rattle.diff_tree.specs.Client.{PageTree}
 use Rattle.diff_tree.specs.Frame.{rendered, faulted}
 use Rattle.diff_tree.specs.Spelling.{page_tree_json}
@@ -26,10 +26,10 @@ frames_only fs crashed = record { frames = fs; sent = []; actions = []; crashed 
 
 -- what the first rendering of a join answers: a page, its whole tree and the rest, or a raise where the join raises; want of
 -- memory is free
-abbrev pub Begins : Source → List Waiting → Res Given → Result Joined PageFault → Type 0
-Begins template w given (Ok j) = Leaves template w given (whole_json template) j.page j.rest j.tree
-Begins template w given (Err fault.Raised) = IsErr given
-Begins template w given (Err fault.OutOfMemory) = Unit {0}
+abbrev pub Begins : CompiledView → List Waiting → Res Given → Result Joined PageFault → Type 0
+Begins compiled w given (Ok j) = Leaves compiled w given (whole_json compiled) j.page j.rest j.tree
+Begins compiled w given (Err fault.Raised) = IsErr given
+Begins compiled w given (Err fault.OutOfMemory) = Unit {0}
 
 -- the frames that tell that memory was wanting
 abbrev pub last_words_of : LivePage → List (List ℕ)

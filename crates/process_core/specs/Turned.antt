@@ -2,7 +2,7 @@
 use Rattle.std.specs.Prelude.{◌≡◌, ℕ, List, [], ◌∷◌, ◌++◌, map, if◌then◌else◌, Option, Some, None, Result, Ok, Err, Bool, true, false}
 use Rattle.serde_json.specs.Data.{object}
 use Rattle.value_core.specs.View.{view}
-use Rattle.slot_compile.specs.Template.{Source}
+use Rattle.bundle_compile.specs.declared.page.CompiledView.{CompiledView}
 use Rattle.diff_tree.specs.Client.{PageDiff}
 use Rattle.diff_tree.specs.Frame.{Frame, push}
 use Rattle.diff_tree.specs.Spelling.{Pushed, changes_json}
@@ -45,20 +45,20 @@ Sums frames (Err fault.Raised) rest last o = o ≡ record { frames = last; sent 
 Sums frames (Err fault.OutOfMemory) rest last o = ⊥
 
 -- nothing is up after a crash; else what is kept stands for what is up, which is of the same join
-abbrev pub StaysUp : Source → LivePage → Page → Option Page → Bool → Type 0
-StaysUp template kept p None crashed = crashed ≡ true
-StaysUp template kept p (Some q) crashed = (crashed ≡ false) × StandsFor template kept q × (q.join_reference ≡ p.join_reference) × (q.topic ≡ p.topic)
+abbrev pub StaysUp : CompiledView → LivePage → Page → Option Page → Bool → Type 0
+StaysUp compiled kept p None crashed = crashed ≡ true
+StaysUp compiled kept p (Some q) crashed = (crashed ≡ false) × StandsFor compiled kept q × (q.join_reference ≡ p.join_reference) × (q.topic ≡ p.topic)
 
 -- a step from a page that was up under a generation, where `w` waited, beside what is kept of the page and the outcome
-pub record PageAnswers (template : Source) (g : ℕ) (w : List Waiting) (p : Page) (t : Stepped) (kept : LivePage) (o : Outcome) : Type 0 where
+pub record PageAnswers (compiled : CompiledView) (g : ℕ) (w : List Waiting) (p : Page) (t : Stepped) (kept : LivePage) (o : Outcome) : Type 0 where
   pub generation : t.state.generation ≡ g
-  pub up : StaysUp template kept p t.state.page o.crashed
+  pub up : StaysUp compiled kept p t.state.page o.crashed
   pub waits : t.inbox ≡ w ++ map (λ v. sent g (view v)) o.sent
   pub frames : o.frames ≡ spelled t.frames
   pub actions : t.actions ≡ map action_view o.actions
   pub crashed : t.crashed ≡ o.crashed
 
 -- the answer to a step, from every page that is kept so
-abbrev pub AnswersPage : Source → LivePage → ℕ → ℕ → (ProcessState → List Waiting → Page → Stepped) → LivePage → Outcome → Type 0
-AnswersPage template before g free step after o =
-    (s : ProcessState) (w : List Waiting) (p : Page) → s.generation ≡ g → s.page ≡ Some p → StandsFor template before p → Fits w free → PageAnswers template g w p (step s w p) after o
+abbrev pub AnswersPage : CompiledView → LivePage → ℕ → ℕ → (ProcessState → List Waiting → Page → Stepped) → LivePage → Outcome → Type 0
+AnswersPage compiled before g free step after o =
+    (s : ProcessState) (w : List Waiting) (p : Page) → s.generation ≡ g → s.page ≡ Some p → StandsFor compiled before p → Fits w free → PageAnswers compiled g w p (step s w p) after o

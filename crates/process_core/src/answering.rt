@@ -2,7 +2,7 @@
 ghost use Rattle.std.specs.Prelude.{◌≡◌, ◌<◌, ◌≤◌, ◌+◌, [], ◌∷◌, ℕ, List, None, IfOk, OnErr, codes};
 ghost use Rattle.value_core.specs.View.{view};
 ghost use Rattle.diff_tree.specs.Frame as frame;
-ghost use Rattle.slot_compile.specs.Template.{Source};
+ghost use Rattle.bundle_compile.specs.declared.page.CompiledView.{CompiledView};
 ghost use Rattle.wire_v2.specs.Message as model;
 ghost use Rattle.wire_v2.specs.Message.{message_of};
 ghost use Rattle.wire_v2.specs.View.{event_value_view, head_view, message_view};
@@ -35,7 +35,7 @@ pub fn answer<V: Views>(
     text: &[u8],
 ) -> Result<Outcome, OutOfMemory>
     requires { process.old.generation < 18446744073709551615 }
-    ensures ok { IfOk result (λ o. AnswersStep app.now.compiled process.old free (λ s w. step_heard (world_of V.meaning app.now) s w (message_of text.now)) process.new o) }
+    ensures ok { IfOk result (λ o. AnswersStep app.now.page process.old free (λ s w. step_heard (world_of V.meaning app.now) s w (message_of text.now)) process.new o) }
     ensures err { OnErr result (Spares process.old process.new) }
     ensures generation { process.new.generation ≤ process.old.generation + 1 }
 {
@@ -55,7 +55,7 @@ fn act<V: Views>(
     message: Message,
 ) -> Result<Outcome, OutOfMemory>
     requires { process.old.generation < 18446744073709551615 }
-    ensures ok { IfOk result (λ o. AnswersStep app.now.compiled process.old free (λ s w. step_message (world_of V.meaning app.now) s w (message_view message)) process.new o) }
+    ensures ok { IfOk result (λ o. AnswersStep app.now.page process.old free (λ s w. step_message (world_of V.meaning app.now) s w (message_view message)) process.new o) }
     ensures err { OnErr result (Spares process.old process.new) }
     ensures generation { process.new.generation ≤ process.old.generation + 1 }
 {
@@ -77,7 +77,7 @@ fn act<V: Views>(
 
 // A sign of life.
 fn beat(alloc: Global, process: &Process, head: MessageHead) -> Result<Outcome, OutOfMemory>
-    ensures { IfOk result (λ o. (template : Source) (free : ℕ) → AnswersStep template process.now free (λ s w. unchanged s w (frame_of None head.reference (codes "phoenix") frame.empty ∷ [])) process.now o) }
+    ensures { IfOk result (λ o. (compiled : CompiledView) (free : ℕ) → AnswersStep compiled process.now free (λ s w. unchanged s w (frame_of None head.reference (codes "phoenix") frame.empty ∷ [])) process.now o) }
 {
     let frames = heartbeat(alloc, &head)?;
     Ok(only(alloc, frames, false))
@@ -93,7 +93,7 @@ fn go_to<V: Views>(
     url: Text,
 ) -> Result<Outcome, OutOfMemory>
     requires { process.old.generation < 18446744073709551615 }
-    ensures ok { IfOk result (λ o. AnswersStep app.now.compiled process.old free (λ s w. step_message (world_of V.meaning app.now) s w (model.join (head_view head) url)) process.new o) }
+    ensures ok { IfOk result (λ o. AnswersStep app.now.page process.old free (λ s w. step_message (world_of V.meaning app.now) s w (model.join (head_view head) url)) process.new o) }
     ensures err { OnErr result (Spares process.old process.new) }
     ensures generation { process.new.generation ≤ process.old.generation + 1 }
 {
@@ -109,7 +109,7 @@ fn patch_to<V: Views>(
     head: MessageHead,
     url: Text,
 ) -> Result<Outcome, OutOfMemory>
-    ensures ok { IfOk result (λ o. AnswersStep app.now.compiled process.old free (λ s w. step_message (world_of V.meaning app.now) s w (model.patch (head_view head) url)) process.new o) }
+    ensures ok { IfOk result (λ o. AnswersStep app.now.page process.old free (λ s w. step_message (world_of V.meaning app.now) s w (model.patch (head_view head) url)) process.new o) }
     ensures err { OnErr result (Spares process.old process.new) }
     ensures generation { process.new.generation ≡ process.old.generation }
 {
@@ -127,7 +127,7 @@ fn happen<V: Views>(
     value: EventValue,
     component: Option<u64>,
 ) -> Result<Outcome, OutOfMemory>
-    ensures ok { IfOk result (λ o. AnswersStep app.now.compiled process.old free (λ s w. step_message (world_of V.meaning app.now) s w (model.event (head_view head) name (event_value_view value) component)) process.new o) }
+    ensures ok { IfOk result (λ o. AnswersStep app.now.page process.old free (λ s w. step_message (world_of V.meaning app.now) s w (model.event (head_view head) name (event_value_view value) component)) process.new o) }
     ensures err { OnErr result (Spares process.old process.new) }
     ensures generation { process.new.generation ≡ process.old.generation }
 {
@@ -147,7 +147,7 @@ fn happen_to_view<V: Views>(
     name: &Text,
     value: EventValue,
 ) -> Result<Outcome, OutOfMemory>
-    ensures ok { IfOk result (λ o. AnswersStep app.now.compiled process.old free (λ s w. step_message (world_of V.meaning app.now) s w (model.event (head_view head.now) name.now (event_value_view value) None)) process.new o) }
+    ensures ok { IfOk result (λ o. AnswersStep app.now.page process.old free (λ s w. step_message (world_of V.meaning app.now) s w (model.event (head_view head.now) name.now (event_value_view value) None)) process.new o) }
     ensures err { OnErr result (Spares process.old process.new) }
     ensures generation { process.new.generation ≡ process.old.generation }
 {

@@ -39,7 +39,7 @@ pub(crate) fn join<V: Views>(
     url: &str,
 ) -> Result<Outcome, OutOfMemory>
     requires { process.old.generation < 18446744073709551615 }
-    ensures ok { IfOk result (λ o. AnswersStep app.now.compiled process.old free (λ s w. step_join (world_of V.meaning app.now) s w (head_view head) ((world_of V.meaning app.now).route url.now)) process.new o) }
+    ensures ok { IfOk result (λ o. AnswersStep app.now.page process.old free (λ s w. step_join (world_of V.meaning app.now) s w (head_view head) ((world_of V.meaning app.now).route url.now)) process.new o) }
     ensures err { OnErr result (Spares process.old process.new) }
     ensures generation { process.new.generation ≤ process.old.generation + 1 }
 {
@@ -59,7 +59,7 @@ fn bring_up<V: Views>(
     to: Destination,
 ) -> Result<Outcome, OutOfMemory>
     requires { process.old.generation < 18446744073709551615 }
-    ensures ok { IfOk result (λ o. AnswersStep app.now.compiled process.old free (λ s w. step_join (world_of V.meaning app.now) s w (head_view head.now) (Some (destination_view to))) process.new o) }
+    ensures ok { IfOk result (λ o. AnswersStep app.now.page process.old free (λ s w. step_join (world_of V.meaning app.now) s w (head_view head.now) (Some (destination_view to))) process.new o) }
     ensures err { OnErr result (Spares process.old process.new) }
     ensures generation { process.new.generation ≤ process.old.generation + 1 }
 {
@@ -80,7 +80,7 @@ fn first_page<V: Views>(
     head: &MessageHead,
     to: &Destination,
 ) -> Result<Joined, PageFault>
-    ensures { (w : List Waiting) → Fits w free → Begins app.now.compiled w (joined_page (world_of V.meaning app.now) (destination_view to.now) head.now.join_ref head.now.topic (rest_of generation w)) result }
+    ensures { (w : List Waiting) → Fits w free → Begins app.now.page w (joined_page (world_of V.meaning app.now) (destination_view to.now) head.now.join_ref head.now.topic (rest_of generation w)) result }
 {
     let mut rest = Rest::new(alloc, generation, free);
     let join_ref = reference_copy(alloc, &head.join_ref)?;

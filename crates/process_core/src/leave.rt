@@ -2,7 +2,7 @@
 ghost use Rattle.std.specs.Prelude.{◌≡◌, List, [], ◌∷◌, ℕ, Some, None, false, if◌then◌else◌, IfOk, OnErr};
 ghost use Rattle.std.specs.Option.{option_copied};
 ghost use Rattle.value_core.specs.Value.{Value};
-ghost use Rattle.slot_compile.specs.Template.{Source};
+ghost use Rattle.bundle_compile.specs.declared.page.CompiledView.{CompiledView};
 ghost use Rattle.diff_tree.specs.Frame as model;
 ghost use Rattle.wire_v2.specs.View.{head_view};
 ghost use Rattle.doc_model.specs.Journal.{spelled};
@@ -25,7 +25,7 @@ pub(crate) fn leave(
     process: &mut Process,
     head: MessageHead,
 ) -> Result<Outcome, OutOfMemory>
-    ensures ok { IfOk result (λ o. (template : Source) (free : ℕ) → AnswersStep template process.old free (λ s w. if_fresh s w (head_view head) (λ p. goes_down s.generation w (reply_to (head_view head) model.empty ∷ frame_of p.join_reference p.join_reference p.topic model.closed ∷ []) false)) process.new o) }
+    ensures ok { IfOk result (λ o. (compiled : CompiledView) (free : ℕ) → AnswersStep compiled process.old free (λ s w. if_fresh s w (head_view head) (λ p. goes_down s.generation w (reply_to (head_view head) model.empty ∷ frame_of p.join_reference p.join_reference p.topic model.closed ∷ []) false)) process.new o) }
     ensures err { OnErr result (Spares process.old process.new) }
     ensures generation { process.new.generation ≡ process.old.generation }
 {
@@ -53,7 +53,7 @@ pub(crate) fn will_destroy(
     process: &Process,
     head: MessageHead,
 ) -> Result<Outcome, OutOfMemory>
-    ensures { IfOk result (λ o. (template : Source) (free : ℕ) → AnswersStep template process.now free (λ s w. if_fresh s w (head_view head) (λ p. unchanged s w (reply_to (head_view head) model.empty ∷ []))) process.now o) }
+    ensures { IfOk result (λ o. (compiled : CompiledView) (free : ℕ) → AnswersStep compiled process.now free (λ s w. if_fresh s w (head_view head) (λ p. unchanged s w (reply_to (head_view head) model.empty ∷ []))) process.now o) }
 {
     if fresh_page(process, &head).is_none() {
         return Ok(silent(alloc));
@@ -68,7 +68,7 @@ pub(crate) fn destroyed(
     process: &Process,
     head: MessageHead,
 ) -> Result<Outcome, OutOfMemory>
-    ensures { IfOk result (λ o. (template : Source) (free : ℕ) → AnswersStep template process.now free (λ s w. if_fresh s w (head_view head) (λ p. unchanged s w (reply_to (head_view head) model.no_cids ∷ []))) process.now o) }
+    ensures { IfOk result (λ o. (compiled : CompiledView) (free : ℕ) → AnswersStep compiled process.now free (λ s w. if_fresh s w (head_view head) (λ p. unchanged s w (reply_to (head_view head) model.no_cids ∷ []))) process.now o) }
 {
     if fresh_page(process, &head).is_none() {
         return Ok(silent(alloc));
@@ -83,7 +83,7 @@ pub(crate) fn absent_component(
     process: &Process,
     head: &MessageHead,
 ) -> Result<Outcome, OutOfMemory>
-    ensures { IfOk result (λ o. (world : World) (template : Source) (free : ℕ) (name : List ℕ) (v : Value) (n : ℕ) → AnswersStep template process.now free (λ s w. if_fresh s w (head_view head.now) (λ p. step_event world s p w (head_view head.now) name v (Some n))) process.now o) }
+    ensures { IfOk result (λ o. (world : World) (compiled : CompiledView) (free : ℕ) (name : List ℕ) (v : Value) (n : ℕ) → AnswersStep compiled process.now free (λ s w. if_fresh s w (head_view head.now) (λ p. step_event world s p w (head_view head.now) name v (Some n))) process.now o) }
 {
     if fresh_page(process, head).is_none() {
         return Ok(silent(alloc));

@@ -8,8 +8,8 @@ ghost use Rattle.process_core.specs.Kept.{Keeps};
 ghost use Rattle.process_core.specs.Shown.{ShowsUp};
 
 use crate::process::Process;
+use bundle_compile::CompiledView;
 use live_page::App;
-use slot_compile::Compiled;
 use std::alloc::Global;
 use text_core::{OutOfMemory, Text};
 use value_core::Assigns;
@@ -21,11 +21,11 @@ pub fn page_text<V: Views>(
     app: &App<V>,
     process: &Process,
 ) -> Result<Option<Text>, OutOfMemory>
-    ensures { IfOk result (λ text. (s : ProcessState) → Keeps app.now.compiled process.now s → ShowsUp (world_of V.meaning app.now) s.page text) }
+    ensures { IfOk result (λ text. (s : ProcessState) → Keeps app.now.page process.now s → ShowsUp (world_of V.meaning app.now) s.page text) }
 {
     match &process.up {
         Some(up) => {
-            let text = rendered(alloc, &app.compiled, up.page.assigns.assigns())?;
+            let text = rendered(alloc, &app.page, up.page.assigns.assigns())?;
             Ok(Some(text))
         }
         None => Ok(None),
@@ -34,10 +34,10 @@ pub fn page_text<V: Views>(
 
 // The full rendering. A page that is up was rendered, so that none of its places raises; a raise is answered as want
 // of memory is.
-fn rendered(alloc: Global, compiled: &Compiled, assigns: &Assigns) -> Result<Text, OutOfMemory>
-    ensures { IfOk result (λ t. IsRendering compiled.now (assigns_view assigns.now) (Ok t)) }
+fn rendered(alloc: Global, page: &CompiledView, assigns: &Assigns) -> Result<Text, OutOfMemory>
+    ensures { IfOk result (λ t. IsRendering page.now (assigns_view assigns.now) (Ok t)) }
 {
-    match diff_render::page_text(alloc, compiled, assigns) {
+    match diff_render::page_text(alloc, page, assigns) {
         Ok(text) => Ok(text),
         Err(_) => Err(OutOfMemory),
     }

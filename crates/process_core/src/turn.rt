@@ -32,7 +32,7 @@ pub(crate) fn event<V: Views>(
     name: &Text,
     value: &Value,
 ) -> Result<Outcome, OutOfMemory>
-    ensures ok { IfOk result (λ o. AnswersStep app.now.compiled process.old free (λ s w. if_fresh s w (head_view head.now) (λ p. step_event (world_of V.meaning app.now) s p w (head_view head.now) name.now (view value.now) None)) process.new o) }
+    ensures ok { IfOk result (λ o. AnswersStep app.now.page process.old free (λ s w. if_fresh s w (head_view head.now) (λ p. step_event (world_of V.meaning app.now) s p w (head_view head.now) name.now (view value.now) None)) process.new o) }
     ensures err { OnErr result (Spares process.old process.new) }
     ensures generation { process.new.generation ≡ process.old.generation }
 {
@@ -57,7 +57,7 @@ pub(crate) fn patch<V: Views>(
     head: &MessageHead,
     url: &str,
 ) -> Result<Outcome, OutOfMemory>
-    ensures ok { IfOk result (λ o. AnswersStep app.now.compiled process.old free (λ s w. if_fresh s w (head_view head.now) (λ p. step_patch (world_of V.meaning app.now) s p w (head_view head.now) ((world_of V.meaning app.now).route url.now))) process.new o) }
+    ensures ok { IfOk result (λ o. AnswersStep app.now.page process.old free (λ s w. if_fresh s w (head_view head.now) (λ p. step_patch (world_of V.meaning app.now) s p w (head_view head.now) ((world_of V.meaning app.now).route url.now))) process.new o) }
     ensures err { OnErr result (Spares process.old process.new) }
     ensures generation { process.new.generation ≡ process.old.generation }
 {
@@ -82,7 +82,7 @@ pub fn told<V: Views>(
     generation: u64,
     value: &Value,
 ) -> Result<Outcome, OutOfMemory>
-    ensures ok { IfOk result (λ o. AnswersStep app.now.compiled process.old free (λ s w. step_waiting (world_of V.meaning app.now) s w (sent generation (view value.now))) process.new o) }
+    ensures ok { IfOk result (λ o. AnswersStep app.now.page process.old free (λ s w. step_waiting (world_of V.meaning app.now) s w (sent generation (view value.now))) process.new o) }
     ensures err { OnErr result (Spares process.old process.new) }
     ensures generation { process.new.generation ≡ process.old.generation }
 {
@@ -118,7 +118,7 @@ fn heard_event<V: Views>(
     name: &Text,
     value: &Value,
 ) -> Result<Outcome, OutOfMemory>
-    ensures { IfOk result (λ o. AnswersPage app.now.compiled page.old generation free (λ s w p. if is_of p (head_view head.now) then step_event (world_of V.meaning app.now) s p w (head_view head.now) name.now (view value.now) None else unchanged s w []) page.new o) }
+    ensures { IfOk result (λ o. AnswersPage app.now.page page.old generation free (λ s w p. if is_of p (head_view head.now) then step_event (world_of V.meaning app.now) s p w (head_view head.now) name.now (view value.now) None else unchanged s w []) page.new o) }
 {
     if !is_of(page, head) {
         return Ok(silent(alloc));
@@ -137,7 +137,7 @@ fn turned_event<V: Views>(
     name: &Text,
     value: &Value,
 ) -> Result<Outcome, OutOfMemory>
-    ensures { IfOk result (λ o. AnswersPage app.now.compiled page.old generation free (λ s w p. step_event (world_of V.meaning app.now) s p w (head_view head.now) name.now (view value.now) None) page.new o) }
+    ensures { IfOk result (λ o. AnswersPage app.now.page page.old generation free (λ s w p. step_event (world_of V.meaning app.now) s p w (head_view head.now) name.now (view value.now) None) page.new o) }
 {
     let last = own_frame(alloc, page, FrameBody::Faulted(None))?;
     let mut rest = Rest::new(alloc, generation, free);
@@ -155,7 +155,7 @@ fn heard_patch<V: Views>(
     head: &MessageHead,
     url: &str,
 ) -> Result<Outcome, OutOfMemory>
-    ensures { IfOk result (λ o. AnswersPage app.now.compiled page.old generation free (λ s w p. if is_of p (head_view head.now) then step_patch (world_of V.meaning app.now) s p w (head_view head.now) ((world_of V.meaning app.now).route url.now) else unchanged s w []) page.new o) }
+    ensures { IfOk result (λ o. AnswersPage app.now.page page.old generation free (λ s w p. if is_of p (head_view head.now) then step_patch (world_of V.meaning app.now) s p w (head_view head.now) ((world_of V.meaning app.now).route url.now) else unchanged s w []) page.new o) }
 {
     if !is_of(page, head) {
         return Ok(silent(alloc));
@@ -176,7 +176,7 @@ fn goes_to<V: Views>(
     head: &MessageHead,
     to: &Destination,
 ) -> Result<Outcome, OutOfMemory>
-    ensures { IfOk result (λ o. AnswersPage app.now.compiled page.old generation free (λ s w p. step_patch (world_of V.meaning app.now) s p w (head_view head.now) (Some (destination_view to.now))) page.new o) }
+    ensures { IfOk result (λ o. AnswersPage app.now.page page.old generation free (λ s w p. step_patch (world_of V.meaning app.now) s p w (head_view head.now) (Some (destination_view to.now))) page.new o) }
 {
     if to.view != page.view {
         return goes_nowhere(alloc, head);
@@ -194,7 +194,7 @@ fn turned_patch<V: Views>(
     head: &MessageHead,
     params: &Value,
 ) -> Result<Outcome, OutOfMemory>
-    ensures { IfOk result (λ o. AnswersPage app.now.compiled page.old generation free (λ s w p. after_turn s p w (reply_diff (head_view head.now)) (view_turn (world_of V.meaning app.now) p ((world_of V.meaning app.now).views.handle_params p.view (view params.now) p.assigns) (rest_of s.generation w))) page.new o) }
+    ensures { IfOk result (λ o. AnswersPage app.now.page page.old generation free (λ s w p. after_turn s p w (reply_diff (head_view head.now)) (view_turn (world_of V.meaning app.now) p ((world_of V.meaning app.now).views.handle_params p.view (view params.now) p.assigns) (rest_of s.generation w))) page.new o) }
 {
     let last = own_frame(alloc, page, FrameBody::Faulted(None))?;
     let mut rest = Rest::new(alloc, generation, free);
@@ -221,7 +221,7 @@ fn heard_value<V: Views>(
     generation: u64,
     value: &Value,
 ) -> Result<Outcome, OutOfMemory>
-    ensures { IfOk result (λ o. AnswersPage app.now.compiled page.old current free (λ s w p. if generation == s.generation then step_info (world_of V.meaning app.now) s w p (Ok (view value.now)) else unchanged s w []) page.new o) }
+    ensures { IfOk result (λ o. AnswersPage app.now.page page.old current free (λ s w p. if generation == s.generation then step_info (world_of V.meaning app.now) s w p (Ok (view value.now)) else unchanged s w []) page.new o) }
 {
     if generation != current {
         return Ok(silent(alloc));
@@ -238,7 +238,7 @@ fn turned_value<V: Views>(
     free: u32,
     value: &Value,
 ) -> Result<Outcome, OutOfMemory>
-    ensures { IfOk result (λ o. AnswersPage app.now.compiled page.old generation free (λ s w p. step_info (world_of V.meaning app.now) s w p (Ok (view value.now))) page.new o) }
+    ensures { IfOk result (λ o. AnswersPage app.now.page page.old generation free (λ s w p. step_info (world_of V.meaning app.now) s w p (Ok (view value.now))) page.new o) }
 {
     let last = own_frame(alloc, page, FrameBody::Faulted(None))?;
     let mut rest = Rest::new(alloc, generation, free);

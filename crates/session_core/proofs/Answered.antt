@@ -24,7 +24,7 @@ use Rattle.session_core.proofs.Goes.{machine, Stands, world, standing, waits, wa
 module _ {V : Type 0} (meaning : V → HandlerMeaning) (app : App V) where
   -- a message that was handled
   pub tells_handled : (es : List (ℕ × Entry)) (kept : ℕ) (p q : Process) (m : Waiting) (rest : List Waiting) (free by : ℕ) (o : Outcome) → Stands meaning app es (m ∷ rest) kept p
-      → AnswersStep app.compiled p free (λ s w. step_waiting (world meaning app) s w (waiting_view m)) q o → length rest + free ≡ 1024
+      → AnswersStep app.page p free (λ s w. step_waiting (world meaning app) s w (waiting_view m)) q o → length rest + free ≡ 1024
       → HandlesFront meaning by (machine app es) (told_as o.crashed o.actions) (machine app (es ++ (by, entry.Handled o.frames) ∷ []))
   tells_handled es kept p q m rest free by o s a fits =
       let x = front_answer meaning app es kept p q m rest free o s a fits in

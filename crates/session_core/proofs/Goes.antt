@@ -3,17 +3,21 @@ use Rattle.std.proofs.Common.{◌≡◌, ℕ, ◌+◌, ◌<◌, ◌≤◌, min, 
 use Rattle.std.proofs.lemmas.List.{map-append, length-map, length-append}
 use Rattle.value_core.specs.View.{view}
 use Rattle.value_core.specs.declared.value.Value.{Value}
-use Rattle.ast_core.specs.Places.{Once}
-use Rattle.slot_compile.specs.Template.{Source, syntax_of}
+use Rattle.ast_core.specs.Places.{Once, streams_in}
+use Rattle.bundle_compile.specs.Page.{site_of_view}
+use Rattle.bundle_compile.specs.Site.{linked_in}
+use Rattle.bundle_compile.specs.declared.page.CompiledView.{CompiledView}
 use Rattle.view_api.specs.Meaning.{HandlerMeaning}
 use Rattle.live_page.specs.declared.app.App.{App}
 use Rattle.live_page.specs.World.{world_of}
+use Rattle.live_page.proofs.Rendered.{plain_page}
 use Rattle.diff_render.proofs.Plains.{plain_no_streams}
 use Rattle.process_core.specs.declared.process.Process.{Process}
 use Rattle.process_core.specs.declared.process.Up.{Up}
 use Rattle.process_core.specs.declared.outcome.Outcome.{Outcome}
 use Rattle.process_core.specs.Kept.{Keeps, UpStands}
 use Rattle.process_core.specs.Answers.{Answers, AnswersStep, words_of}
+use Rattle.doc_model.specs.Bundle.{root_in}
 use Rattle.doc_model.specs.Effects as model
 use Rattle.doc_model.specs.Process.{World, Page, Stepped, handled_front, step_waiting}
 use Rattle.doc_model.specs.Journal as journal
@@ -35,7 +39,7 @@ machine app es = record { app = app; journal = es }
 -- what holds of the parts of a session
 pub record Stands {V : Type 0} (meaning : V → HandlerMeaning) (app : App V) (es : List (ℕ × Entry)) (inbox : List Waiting) (kept : ℕ) (process : Process) : Type 0 where
   pub holds : SessionHolds (world_of meaning app) (journal_view es) (standing_of meaning (machine app es))
-  pub state : Keeps app.compiled process (standing_of meaning (machine app es)).state
+  pub state : Keeps app.page process (standing_of meaning (machine app es)).state
   pub inbox_is : (standing_of meaning (machine app es)).inbox ≡ inbox_view inbox
   pub size : kept ≡ min (kept_size (machine app es)) 18446744073709551615
 
@@ -48,11 +52,11 @@ views_sent g [] = refl
 views_sent g (v ∷ vs) = ap (λ ws. model.sent g (view v) ∷ ws) (views_sent g vs)
 
 -- the last words of what is up
-words_are : (template : Source) (g : ℕ) (u : Option Up) (page : Option Page) → UpStands template u page → words_of (record { generation = g; up = u }) ≡ spelled (fault_frames page (Some (codes "out of memory")))
-words_are template g None None h = refl
-words_are template g None (Some p) h = absurd h
-words_are template g (Some u) None h = absurd h
-words_are template g (Some u) (Some p) h = h.ready
+words_are : (compiled : CompiledView) (g : ℕ) (u : Option Up) (page : Option Page) → UpStands compiled u page → words_of (record { generation = g; up = u }) ≡ spelled (fault_frames page (Some (codes "out of memory")))
+words_are compiled g None None h = refl
+words_are compiled g None (Some p) h = absurd h
+words_are compiled g (Some u) None h = absurd h
+words_are compiled g (Some u) (Some p) h = h.ready
 
 -- a text that fits, and the size that it leaves
 fits_size : (kept size n asked : ℕ) → kept ≡ min size 18446744073709551615 → asked ≡ min (n + 64) 18446744073709551615 → kept + asked ≤ 16777216 → size + (64 + ((n + 0) + 0)) ≤ 16777216
@@ -71,8 +75,12 @@ module _ {V : Type 0} (meaning : V → HandlerMeaning) (app : App V) where
   abbrev pub standing : List (ℕ × Entry) → Standing
   standing es = standing_of meaning (machine app es)
 
+  -- no template of the bundle has a stream
+  once : (n : List ℕ) → Once (streams_in ((site_of_view app.page).template n))
+  once n = subst Once (sym (plain_no_streams ((site_of_view app.page).template n) ((plain_page app.page).templates n))) tt
+
   pub linked : IsLinked (world_of meaning app)
-  linked = record { of_view = λ v. subst Once (sym (plain_no_streams (syntax_of app.compiled) app.plain)) tt; of_module = λ m. tt }
+  linked = record { of_view = λ v. once app.page.template; of_module = λ m. once (root_in (linked_in app.page.bundle).modules m) }
 
   abbrev more_view : (es : List (ℕ × Entry)) (by : ℕ) (e : Entry) → journal_view (es ++ (by, e) ∷ []) ≡ journal_view es ++ entry_view e ∷ []
   more_view es by e = map-append (λ x. entry_view x.1) es ((by, e) ∷ [])
@@ -109,7 +117,7 @@ module _ {V : Type 0} (meaning : V → HandlerMeaning) (app : App V) where
       let one = added es by (entry.Heard t) s.holds (subst (λ (k : ℕ). k < 1024) (sym n) few, fit) refl in
       record {
         holds = one.1;
-        state = subst (λ (x : Standing). Keeps app.compiled p x.state) (sym one.0) s.state;
+        state = subst (λ (x : Standing). Keeps app.page p x.state) (sym one.0) s.state;
         inbox_is = ap (λ (x : Standing). x.inbox) one.0 ∙ ap (λ ws. ws ++ model.heard t ∷ []) s.inbox_is ∙ sym (map-append waiting_view inbox (waiting.Heard t ∷ []));
         size = size_then kept (journal_size (journal_view es)) (length t) asked s.size a fits ∙ ap (λ k. min k 18446744073709551615) (sym (kept_more es by (entry.Heard t)));
       }
@@ -121,13 +129,13 @@ module _ {V : Type 0} (meaning : V → HandlerMeaning) (app : App V) where
 
   -- the answer to the message at the front
   pub front_answer : (es : List (ℕ × Entry)) (kept : ℕ) (p q : Process) (m : Waiting) (rest : List Waiting) (free : ℕ) (o : Outcome) → Stands meaning app es (m ∷ rest) kept p
-      → AnswersStep app.compiled p free (λ s w. step_waiting world s w (waiting_view m)) q o → length rest + free ≡ 1024
-      → Answers app.compiled (inbox_view rest) (step_waiting world (standing es).state (inbox_view rest) (waiting_view m)) q o
+      → AnswersStep app.page p free (λ s w. step_waiting world s w (waiting_view m)) q o → length rest + free ≡ 1024
+      → Answers app.page (inbox_view rest) (step_waiting world (standing es).state (inbox_view rest) (waiting_view m)) q o
   front_answer es kept p q m rest free o s a fits = a (standing es).state (inbox_view rest) s.state (ap (λ n. n + free) (length-map rest waiting_view) ∙ fits)
 
   -- with what the process sent itself, no more wait than may
   pub few_after : (es : List (ℕ × Entry)) (kept : ℕ) (p q : Process) (m : Waiting) (rest : List Waiting) (free : ℕ) (o : Outcome) → Stands meaning app es (m ∷ rest) kept p
-      → AnswersStep app.compiled p free (λ s w. step_waiting world s w (waiting_view m)) q o → length rest + free ≡ 1024 → length rest + length o.sent ≤ 1024
+      → AnswersStep app.page p free (λ s w. step_waiting world s w (waiting_view m)) q o → length rest + free ≡ 1024 → length rest + length o.sent ≤ 1024
   few_after es kept p q m rest free o s a fits =
       let x = front_answer es kept p q m rest free o s a fits in
       let before = length-map rest waiting_view in
@@ -139,7 +147,7 @@ module _ {V : Type 0} (meaning : V → HandlerMeaning) (app : App V) where
 
   -- a message that was handled
   pub handled : (es : List (ℕ × Entry)) (kept : ℕ) (p q : Process) (m : Waiting) (rest : List Waiting) (free by : ℕ) (o : Outcome) → Stands meaning app es (m ∷ rest) kept p
-      → AnswersStep app.compiled p free (λ s w. step_waiting world s w (waiting_view m)) q o → length rest + free ≡ 1024
+      → AnswersStep app.page p free (λ s w. step_waiting world s w (waiting_view m)) q o → length rest + free ≡ 1024
       → Stands meaning app (es ++ (by, entry.Handled o.frames) ∷ []) (rest ++ map (sent_under q.generation) o.sent) (grown kept o.frames) q
   handled es kept p q m rest free by o s a fits =
       let x = front_answer es kept p q m rest free o s a fits in
@@ -149,14 +157,14 @@ module _ {V : Type 0} (meaning : V → HandlerMeaning) (app : App V) where
       let to : standing (es ++ (by, entry.Handled o.frames) ∷ []) ≡ after_step (step_waiting world (standing es).state (inbox_view rest) (waiting_view m)) = one.0 ∙ ap after_step f in
       record {
         holds = one.1;
-        state = subst (λ (y : Standing). Keeps app.compiled q y.state) (sym to) x.keeps;
+        state = subst (λ (y : Standing). Keeps app.page q y.state) (sym to) x.keeps;
         inbox_is = ap (λ (y : Standing). y.inbox) to ∙ x.waits ∙ ap (λ ws. inbox_view rest ++ ws) (sym (views_sent q.generation o.sent)) ∙ sym (map-append waiting_view rest (map (sent_under q.generation) o.sent));
         size = grown_size kept (journal_size (journal_view es)) (total_length o.frames) s.size ∙ ap (λ k. min k 18446744073709551615) (sym (kept_more es by (entry.Handled o.frames)));
       }
 
-  pub words_fell : (es : List (ℕ × Entry)) (p : Process) (words : List (List ℕ)) → Keeps app.compiled p (standing es).state → words ≡ words_of p
+  pub words_fell : (es : List (ℕ × Entry)) (p : Process) (words : List (List ℕ)) → Keeps app.page p (standing es).state → words ≡ words_of p
       → words ≡ spelled (fault_frames (standing es).state.page (Some (codes "out of memory")))
-  words_fell es p words k h = h ∙ words_are app.compiled p.generation p.up (standing es).state.page k.up
+  words_fell es p words k h = h ∙ words_are app.page p.generation p.up (standing es).state.page k.up
 
   -- memory was wanting at a message
   pub fell : (es : List (ℕ × Entry)) (kept : ℕ) (p : Process) (m : Waiting) (rest : List Waiting) (by : ℕ) (words : List (List ℕ)) → Stands meaning app es (m ∷ rest) kept p → words ≡ words_of p
@@ -165,7 +173,7 @@ module _ {V : Type 0} (meaning : V → HandlerMeaning) (app : App V) where
       let one = added es by (entry.Fell words) s.holds (waits es m rest s.inbox_is) (words_fell es p words s.state h) in
       record {
         holds = one.1;
-        state = subst (λ (y : Standing). Keeps app.compiled (record { generation = p.generation; up = None }) y.state) (sym one.0) (record { generation = s.state.generation; up = tt });
+        state = subst (λ (y : Standing). Keeps app.page (record { generation = p.generation; up = None }) y.state) (sym one.0) (record { generation = s.state.generation; up = tt });
         inbox_is = ap (λ (y : Standing). y.inbox) one.0 ∙ ap without_front s.inbox_is;
         size = grown_size kept (journal_size (journal_view es)) (total_length words) s.size ∙ ap (λ k. min k 18446744073709551615) (sym (kept_more es by (entry.Fell words)));
       }

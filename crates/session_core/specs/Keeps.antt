@@ -17,7 +17,7 @@ machine_of s = record { app = arc_value s.app; journal = s.journal.items }
 -- the four clauses of the headline hold of the journal and of the state that is kept; each message that waits has room for its outcome
 pub record KeepsAll {V : Type 0} (meaning : V → HandlerMeaning) (s : Inside V) : Type 0 where
   pub holds : SessionHolds (world_of meaning (arc_value s.app)) (journal_view s.journal.items) (standing_of meaning (machine_of s))
-  pub state : Keeps (arc_value s.app).compiled s.process (standing_of meaning (machine_of s)).state
+  pub state : Keeps (arc_value s.app).page s.process (standing_of meaning (machine_of s)).state
   pub inbox : (standing_of meaning (machine_of s)).inbox ≡ inbox_view s.inbox.items
   pub size : s.kept ≡ min (kept_size (machine_of s)) 18446744073709551615
   pub count : s.frame_count ≡ min (length (journal_frames s.journal.items)) 18446744073709551615

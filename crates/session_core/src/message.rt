@@ -51,7 +51,7 @@ fn step<V: Views>(
     message: &Waiting,
 ) -> Result<Outcome, OutOfMemory>
     requires { process.old.generation < 18446744073709551615 }
-    ensures ok { IfOk result (λ o. AnswersStep app.now.compiled process.old free (λ s w. step_waiting (world_of V.meaning app.now) s w (waiting_view message.now)) process.new o) }
+    ensures ok { IfOk result (λ o. AnswersStep app.now.page process.old free (λ s w. step_waiting (world_of V.meaning app.now) s w (waiting_view message.now)) process.new o) }
     ensures generation { process.new.generation ≤ process.old.generation + 1 }
 {
     match message {
@@ -119,7 +119,7 @@ fn outcome_or<V: Views>(
     requires room { vec_len journal.old + deque_len inbox.old < vec_capacity journal.old }
     requires limit { deque_len inbox.old < 1024 }
     requires generation { process.old.generation < 18446744073709551615 }
-    ensures ok { IfOk result (λ o. AnswersStep app.now.compiled process.old (1024 - deque_len inbox.old) (λ s w. step_waiting (world_of V.meaning app.now) s w (waiting_view message.now)) process.new o) }
+    ensures ok { IfOk result (λ o. AnswersStep app.now.page process.old (1024 - deque_len inbox.old) (λ s w. step_waiting (world_of V.meaning app.now) s w (waiting_view message.now)) process.new o) }
     ensures err { IfErr result (λ frames. frames ≡ words) }
     ensures inbox_room { IfOk result (λ o. deque_len inbox.new + length o.sent ≤ deque_capacity inbox.new) }
     ensures journal_room { IfOk result (λ o. vec_len journal.new + deque_len inbox.new + length o.sent < vec_capacity journal.new) }
@@ -150,7 +150,7 @@ pub(crate) fn outcome_of<V: Views>(
     requires room { vec_len journal.old + deque_len inbox.old < vec_capacity journal.old }
     requires limit { deque_len inbox.old < 1024 }
     requires generation { process.old.generation < 18446744073709551615 }
-    ensures ok { IfOk result (λ o. AnswersStep app.now.compiled process.old (1024 - deque_len inbox.old) (λ s w. step_waiting (world_of V.meaning app.now) s w (waiting_view message)) process.new o) }
+    ensures ok { IfOk result (λ o. AnswersStep app.now.page process.old (1024 - deque_len inbox.old) (λ s w. step_waiting (world_of V.meaning app.now) s w (waiting_view message)) process.new o) }
     ensures err { IfErr result (λ frames. frames ≡ words_of process.old) }
     ensures inbox_room { IfOk result (λ o. deque_len inbox.new + length o.sent ≤ deque_capacity inbox.new) }
     ensures journal_room { IfOk result (λ o. vec_len journal.new + deque_len inbox.new + length o.sent < vec_capacity journal.new) }

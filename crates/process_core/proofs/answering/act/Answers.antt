@@ -11,28 +11,28 @@ returns-in-Beat-clause-ok g c =
     let app = c.args.app.now in
     let before = c.args.process.now in
     for_message g.V.Views.meaning app before before c.args.free c.args.message (message.Beat c.in-Beat.head) c.beat.result c.in-Beat.is
-    (for_any before before (λ s w. unchanged s w (frame_of None c.in-Beat.head.reference (codes "phoenix") empty ∷ [])) app.compiled c.args.free c.beat.result c.beat.ensures)
+    (for_any before before (λ s w. unchanged s w (frame_of None c.in-Beat.head.reference (codes "phoenix") empty ∷ [])) app.page c.args.free c.beat.result c.beat.ensures)
 
 pub returns-in-Leave-clause-ok : goal.returns-in-Leave-clause-ok
 returns-in-Leave-clause-ok g c =
     let app = c.args.app.now in
     let before = c.args.process.now in
     for_message g.V.Views.meaning app before c.leave.new.process c.args.free c.args.message (message.Leave c.in-Leave.head) c.leave.result c.in-Leave.is
-    (for_any before c.leave.new.process (λ s w. if_fresh s w (head_view c.in-Leave.head) (λ p. goes_down s.generation w (reply_to (head_view c.in-Leave.head) empty ∷ frame_of p.join_reference p.join_reference p.topic closed ∷ []) false)) app.compiled c.args.free c.leave.result c.leave.ensures.ok)
+    (for_any before c.leave.new.process (λ s w. if_fresh s w (head_view c.in-Leave.head) (λ p. goes_down s.generation w (reply_to (head_view c.in-Leave.head) empty ∷ frame_of p.join_reference p.join_reference p.topic closed ∷ []) false)) app.page c.args.free c.leave.result c.leave.ensures.ok)
 
 pub returns-in-WillDestroy-clause-ok : goal.returns-in-WillDestroy-clause-ok
 returns-in-WillDestroy-clause-ok g c =
     let app = c.args.app.now in
     let before = c.args.process.now in
     for_message g.V.Views.meaning app before before c.args.free c.args.message (message.WillDestroy c.in-WillDestroy.head) c.will_destroy.result c.in-WillDestroy.is
-    (for_any before before (λ s w. if_fresh s w (head_view c.in-WillDestroy.head) (λ p. unchanged s w (reply_to (head_view c.in-WillDestroy.head) empty ∷ []))) app.compiled c.args.free c.will_destroy.result c.will_destroy.ensures)
+    (for_any before before (λ s w. if_fresh s w (head_view c.in-WillDestroy.head) (λ p. unchanged s w (reply_to (head_view c.in-WillDestroy.head) empty ∷ []))) app.page c.args.free c.will_destroy.result c.will_destroy.ensures)
 
 pub returns-in-Destroyed-clause-ok : goal.returns-in-Destroyed-clause-ok
 returns-in-Destroyed-clause-ok g c =
     let app = c.args.app.now in
     let before = c.args.process.now in
     for_message g.V.Views.meaning app before before c.args.free c.args.message (message.Destroyed c.in-Destroyed.head) c.destroyed.result c.in-Destroyed.is
-    (for_any before before (λ s w. if_fresh s w (head_view c.in-Destroyed.head) (λ p. unchanged s w (reply_to (head_view c.in-Destroyed.head) no_cids ∷ []))) app.compiled c.args.free c.destroyed.result c.destroyed.ensures)
+    (for_any before before (λ s w. if_fresh s w (head_view c.in-Destroyed.head) (λ p. unchanged s w (reply_to (head_view c.in-Destroyed.head) no_cids ∷ []))) app.page c.args.free c.destroyed.result c.destroyed.ensures)
 
 pub returns-in-Join-clause-ok : goal.returns-in-Join-clause-ok
 returns-in-Join-clause-ok g c =

@@ -20,7 +20,7 @@ returns-in-Ok-clause-ok g c =
     let route = destination_view c.args.to in
     let next = before.generation + 1 in
     IfOk-weaker c.comes_up.result (λ o. Came c.in-Ok.joined next head after o)
-    (λ o. AnswersStep app.compiled before c.args.free (λ s w. step_join (world_of meaning app) s w head (Some route)) after o)
+    (λ o. AnswersStep app.page before c.args.free (λ s w. step_join (world_of meaning app) s w head (Some route)) after o)
     (λ o came s w keeps fits. up_is meaning app head route w next c.in-Ok.joined after o s (next_generation s.generation before.generation keeps.generation) (c.in-Ok.ensures w fits) came)
     c.comes_up.ensures.ok
 
@@ -34,6 +34,6 @@ returns-in-Err-Raised-clause-ok g c =
     let route = destination_view c.args.to in
     let next = before.generation + 1 in
     IfOk-weaker c.crashes.result (λ o. Crashed next (spelled (reply_to head (refusal (codes "join crashed")) ∷ [])) after o)
-    (λ o. AnswersStep app.compiled before c.args.free (λ s w. step_join (world_of meaning app) s w head (Some route)) after o)
-    (λ o crashed s w keeps fits. down_is meaning app head route w next after o s (next_generation s.generation before.generation keeps.generation) (begins_raised app.compiled w (begun meaning app head route w next) c.in-Err-Raised.field-0 c.in-Err-Raised.field-0-is (c.in-Err-Raised.ensures w fits)) crashed)
+    (λ o. AnswersStep app.page before c.args.free (λ s w. step_join (world_of meaning app) s w head (Some route)) after o)
+    (λ o crashed s w keeps fits. down_is meaning app head route w next after o s (next_generation s.generation before.generation keeps.generation) (begins_raised app.page w (begun meaning app head route w next) c.in-Err-Raised.field-0 c.in-Err-Raised.field-0-is (c.in-Err-Raised.ensures w fits)) crashed)
     c.crashes.ensures.ok

@@ -8,12 +8,12 @@ use Rattle.process_core.proofs.Left.{no_page, replied, silence, some_page}
 use Rattle.process_core.proofs.leave.will_destroy.Goals as goal
 
 pub returns-then-is_none : goal.returns-then-is_none
-returns-then-is_none c template free s w keeps fits =
-    silence template c.args.process.now c.args.process.now s w c.args.head (λ p. unchanged s w (reply_to (head_view c.args.head) empty ∷ [])) c.silent.result keeps
+returns-then-is_none c compiled free s w keeps fits =
+    silence compiled c.args.process.now c.args.process.now s w c.args.head (λ p. unchanged s w (reply_to (head_view c.args.head) empty ∷ [])) c.silent.result keeps
     (no_page c.fresh_page.result (fresh_page c.args.process.now.up c.args.head) c.if-is_none.ensures c.fresh_page.ensures) refl c.silent.ensures
 
 pub returns : goal.returns
-returns c template free s w keeps fits =
+returns c compiled free s w keeps fits =
     let found = some_page c.fresh_page.result (fresh_page c.args.process.now.up c.args.head) c.if-is_none.ensures c.fresh_page.ensures in
-    replied template c.args.process.now c.args.process.now s w c.args.head found.0 (reply_to (head_view c.args.head) empty ∷ []) c.only.result keeps found.1 refl
+    replied compiled c.args.process.now c.args.process.now s w c.args.head found.0 (reply_to (head_view c.args.head) empty ∷ []) c.only.result keeps found.1 refl
     (c.only.ensures ∙ ap (λ fs. frames_only fs false) (c.in_ok-frames.ensures empty refl))

@@ -10,8 +10,8 @@ use Rattle.process_core.proofs.shown.page_text.Goals as goal
 
 pub returns-in_ok-text-in-Some : goal.returns-in_ok-text-in-Some
 returns-in_ok-text-in-Some g c s keeps =
-    let template = c.args.app.now.compiled in
+    let compiled = c.args.app.now.page in
     let text = c.in_ok-text-in-Some.text in
     shows_text g.V.Views.meaning c.args.app.now c.in-Some.up s.page text
-    (subst (λ (u : Option Up). UpStands template u s.page) c.in-Some.is keeps.up)
-    (subst (λ (l : List (KeyValue Value)). IsRendering template (assigns_view l) (Ok text)) c.assigns.ensures c.in_ok-text-in-Some.ensures)
+    (subst (λ (u : Option Up). UpStands compiled u s.page) c.in-Some.is keeps.up)
+    (subst (λ (l : List (KeyValue Value)). IsRendering compiled (assigns_view l) (Ok text)) c.assigns.ensures c.in_ok-text-in-Some.ensures)

@@ -10,6 +10,6 @@ use Rattle.process_core.proofs.turn.event.Goals as goal
 pub returns-in_ok-outcome-in-Some-clause-ok : goal.returns-in_ok-outcome-in-Some-clause-ok
 returns-in_ok-outcome-in-Some-clause-ok g c =
     let h = head_view c.args.head.now in
-    lift_up c.args.app.now.compiled c.args.process.now c.put_down.new.process c.in-Some.up c.heard_event.new.page c.args.free
+    lift_up c.args.app.now.page c.args.process.now c.put_down.new.process c.in-Some.up c.heard_event.new.page c.args.free
     (λ s w p. if is_of p h then step_event (world_of g.V.Views.meaning c.args.app.now) s p w h c.args.name.now (view c.args.value.now) None else unchanged s w [])
     c.in_ok-outcome-in-Some.outcome c.in-Some.is (ap (λ (k : Process). k.generation) c.put_down.ensures) (ap (λ (k : Process). k.up) c.put_down.ensures) c.in_ok-outcome-in-Some.ensures

@@ -76,8 +76,8 @@ returns-in_err-tree g c w free =
     let asked_then = sym (ap (λ (l : List (KeyValue Value)). then_asked m app route j t r0 (assigns_view l)) c.assigns.ensures) ∙ c.in_ok-begun.ensures in
     let done_then = c.in_ok-apply_effects-2.ensures.does done.1.0 w done.0 in
     let is = joins m app route j t r0 es fs (assigns_view after) (present c.apply_effects-2.new.assigns) done.1.0 done_then.1.0 r1 (rest_view w c.apply_effects-2.new.rest) asked done.1.1 asked_then done_then.1.1 in
-    let rendered = subst (λ (l : List (KeyValue Value)). Renders app.compiled (assigns_view l) (whole_json app.compiled) (Err c.in_err-tree.field-0.0)) c.assigns-2.ensures c.in_err-tree.ensures in
-    let h = first_fault m app route j t r0 w _ (present c.apply_effects-2.new.assigns) (whole_json app.compiled) c.apply_effects-2.new.rest c.in_err-tree.field-0.0 is rendered in
+    let rendered = subst (λ (l : List (KeyValue Value)). Renders app.page (assigns_view l) (whole_json app.page) (Err c.in_err-tree.field-0.0)) c.assigns-2.ensures c.in_err-tree.ensures in
+    let h = first_fault m app route j t r0 w _ (present c.apply_effects-2.new.assigns) (whole_json app.page) c.apply_effects-2.new.rest c.in_err-tree.field-0.0 is rendered in
     search (rules, h)
 
 pub returns : goal.returns
@@ -98,5 +98,5 @@ returns g c w free =
     let asked_then = sym (ap (λ (l : List (KeyValue Value)). then_asked m app route j t r0 (assigns_view l)) c.assigns.ensures) ∙ c.in_ok-begun.ensures in
     let done_then = c.in_ok-apply_effects-2.ensures.does done.1.0 w done.0 in
     let is = joins m app route j t r0 es fs (assigns_view after) (present c.apply_effects-2.new.assigns) done.1.0 done_then.1.0 r1 (rest_view w c.apply_effects-2.new.rest) asked done.1.1 asked_then done_then.1.1 in
-    let rendered = subst (λ (l : List (KeyValue Value)). Renders app.compiled (assigns_view l) (whole_json app.compiled) (Ok (c.in_ok-tree.tree, c.in_ok-tree.prints))) c.assigns-2.ensures c.in_ok-tree.ensures in
-    leaves_page m app w _ (whole_json app.compiled) c.args.to.now.view j t c.apply_effects-2.new.assigns c.settle.new.self c.apply_effects-2.new.rest c.in_ok-tree.tree c.in_ok-tree.prints is rendered done_then.0 c.settle.ensures.present c.settle.ensures.settled
+    let rendered = subst (λ (l : List (KeyValue Value)). Renders app.page (assigns_view l) (whole_json app.page) (Ok (c.in_ok-tree.tree, c.in_ok-tree.prints))) c.assigns-2.ensures c.in_ok-tree.ensures in
+    leaves_page m app w _ (whole_json app.page) c.args.to.now.view j t c.apply_effects-2.new.assigns c.settle.new.self c.apply_effects-2.new.rest c.in_ok-tree.tree c.in_ok-tree.prints is rendered done_then.0 c.settle.ensures.present c.settle.ensures.settled

@@ -9,4 +9,4 @@ use Rattle.live_page.proofs.page.LivePage.patch.Goals as goal
 pub returns : goal.returns
 returns g c w p stands free =
     let asked = ap (λ x. (g.V.Views.meaning c.args.app.now.views).handle_params x.view (view c.args.params.now) x.assigns) stands.is ∙ sym (ap (λ l. (g.V.Views.meaning c.args.app.now.views).handle_params c.args.self.now.view (view c.args.params.now) (assigns_view l)) c.assigns.ensures) ∙ c.in_ok-effects.ensures in
-    subst (λ o. Turns c.args.app.now.compiled w p (view_turn (world_of g.V.Views.meaning c.args.app.now) p o (rest_view w c.args.rest.now)) c.turn.new.self c.turn.result c.turn.new.rest) (sym asked) (c.turn.ensures w p stands free)
+    subst (λ o. Turns c.args.app.now.page w p (view_turn (world_of g.V.Views.meaning c.args.app.now) p o (rest_view w c.args.rest.now)) c.turn.new.self c.turn.result c.turn.new.rest) (sym asked) (c.turn.ensures w p stands free)

@@ -31,7 +31,7 @@ invariant_of-self-in-Ok g c =
     let s : Stands m app i.journal.items (c.in-Some.message ∷ rest) i.kept i.process = subst (λ (b : List Waiting). Stands m app i.journal.items b i.kept i.process) c.in-Some.ensures.items s0 in
     let ok = c.pop_front.new.self.ok.0 in
     let fits : length rest + (1024 - deque_len c.pop_front.new.self) ≡ 1024 = omega (arith, ok, v.waits, c.in-Some.ensures.len) in
-    let a : AnswersStep app.compiled i.process (1024 - deque_len c.pop_front.new.self) (λ s w. step_waiting (world_of m app) s w (waiting_view c.in-Some.message)) q o = rw c.deref.ensures at c.in-Ok.ensures.ok in
+    let a : AnswersStep app.page i.process (1024 - deque_len c.pop_front.new.self) (λ s w. step_waiting (world_of m app) s w (waiting_view c.in-Some.message)) q o = rw c.deref.ensures at c.in-Ok.ensures.ok in
     let few = few_after m app i.journal.items i.kept i.process q c.in-Some.message rest (1024 - deque_len c.pop_front.new.self) o s a fits in
     let t = handled m app i.journal.items i.kept i.process q c.in-Some.message rest (1024 - deque_len c.pop_front.new.self) c.args.by o s a fits in
     let journal = c.write_outcome.ensures.journal ∙ ap (λ (xs : List (ℕ × Entry)). xs ++ (c.args.by, entry.Handled o.frames) ∷ []) c.in-Ok.ensures.journal in
@@ -86,7 +86,7 @@ returns-in-Ok g c =
     let s : Stands m app i.journal.items (c.in-Some.message ∷ rest) i.kept i.process = subst (λ (b : List Waiting). Stands m app i.journal.items b i.kept i.process) c.in-Some.ensures.items s0 in
     let ok = c.pop_front.new.self.ok.0 in
     let fits : length rest + (1024 - deque_len c.pop_front.new.self) ≡ 1024 = omega (arith, ok, v.waits, c.in-Some.ensures.len) in
-    let a : AnswersStep app.compiled i.process (1024 - deque_len c.pop_front.new.self) (λ s w. step_waiting (world_of m app) s w (waiting_view c.in-Some.message)) q o = rw c.deref.ensures at c.in-Ok.ensures.ok in
+    let a : AnswersStep app.page i.process (1024 - deque_len c.pop_front.new.self) (λ s w. step_waiting (world_of m app) s w (waiting_view c.in-Some.message)) q o = rw c.deref.ensures at c.in-Ok.ensures.ok in
     let h = tells_handled m app i.journal.items i.kept i.process q c.in-Some.message rest (1024 - deque_len c.pop_front.new.self) c.args.by o s a fits in
     let journal = c.write_outcome.ensures.journal ∙ ap (λ (xs : List (ℕ × Entry)). xs ++ (c.args.by, entry.Handled o.frames) ∷ []) c.in-Ok.ensures.journal in
     rw (← c.self.view_is) (subst (λ (r : Handled). HandlesFront m c.args.by (machine app i.journal.items) r (machine app c.write_outcome.new.journal.items)) (sym c.write_outcome.ensures.told)
