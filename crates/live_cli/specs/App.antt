@@ -14,6 +14,6 @@ rows_or_none (Err n) = []
 abbrev pub home_rows : Rows
 home_rows = rows_or_none (table_of (codes "/" ∷ []))
 
--- the bundle's template, and the view at `/` whose handlers are the manifest's steps
+-- the page of the bundle's view, and the view at `/` whose handlers are the manifest's steps
 unfoldable pub app_of : Bundle → App ScriptViews
-app_of bundle = record { compiled = bundle.compiled; routes = home_rows; views = script_of bundle.mount bundle.events; plain = bundle.plain }
+app_of bundle = record { page = bundle.view; routes = home_rows; views = script_of bundle.mount bundle.events }

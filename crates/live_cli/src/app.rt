@@ -30,16 +30,16 @@ fn home_routes(alloc: Global) -> Result<Routes, OutOfMemory>
     }
 }
 
-/// The app of a bundle: its template, and its view at `/`, whose handlers are the manifest's steps.
+/// The app of a bundle: its view at `/`, with its page, whose handlers are the manifest's steps.
 #[tactic(auto, unfolding(crate::specs::App::app_of))]
 pub fn app_of(alloc: Global, bundle: Bundle) -> Result<App<ScriptViews>, OutOfMemory>
     ensures { IfOk result (λ app. app ≡ app_of bundle) }
 {
     let Bundle {
-        compiled,
+        view,
         mount,
         events,
     } = bundle;
     let routes = home_routes(alloc)?;
-    Ok(App::build(compiled, routes, ScriptViews::of(mount, events)))
+    Ok(App::build(view, routes, ScriptViews::of(mount, events)))
 }

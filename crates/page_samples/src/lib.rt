@@ -2,6 +2,8 @@
 #![tactic(auto)]
 
 #[cfg(test)]
+mod apps;
+#[cfg(test)]
 mod effects;
 #[cfg(test)]
 mod page;

@@ -1,23 +1,19 @@
 //! A page that greets, joined.
-use ast_core::{Attribute, AttributeValue, Attributes, Expr, Location, Node, Nodes, Pair, Place};
+use crate::apps::{greeting_app, named, one};
+use ast_core::{
+    Attribute, AttributeValue, Attributes, Expr, Location, Node, Nodes, Pair, Place, SlotBody,
+};
 use diff_tree::{Diff, Part, write_diff};
 use effects_apply::Rest;
 use live_page::{App, Destination, LivePage, PageFault};
-use route_table::Routes;
-use slot_compile::{Compiled, compile};
 use std::alloc::Global;
 use std::test::Fail;
 use text_core::{OutOfMemory, Seq, Text};
+use value_core::Value;
 use view_api::Greeting;
 
 fn at() -> Location {
     Location { line: 1, column: 1 }
-}
-
-fn one<T: Drop>(alloc: Global, item: T) -> Result<Seq<T>, OutOfMemory> {
-    let mut items = Seq::new(alloc);
-    items.push(item)?;
-    Ok(items)
 }
 
 // `@greeting`
@@ -73,21 +69,54 @@ fn template(alloc: Global) -> Result<Nodes, OutOfMemory> {
     one(alloc, element)
 }
 
-// The app of a template at `/`.
-fn app_of(alloc: Global, compiled: Compiled) -> Result<Option<App<Greeting>>, OutOfMemory> {
-    let mut paths = Seq::new(alloc);
-    paths.push(Text::copy_of(alloc, "/")?)?;
-    match Routes::build(alloc, &paths) {
-        Ok(routes) => Ok(Some(App::build(compiled, routes, Greeting))),
-        Err(_) => Ok(None),
-    }
+// The app of that template alone.
+fn app_of_greeting(alloc: Global) -> Result<Option<App<Greeting>>, OutOfMemory> {
+    let page = named(alloc, "page", template(alloc)?)?;
+    greeting_app(alloc, one(alloc, page)?, Seq::new(alloc))
 }
 
-fn greeting_app(alloc: Global) -> Result<Option<App<Greeting>>, OutOfMemory> {
-    match compile(alloc, template(alloc)?)? {
-        Some(compiled) => app_of(alloc, compiled),
-        None => Ok(None),
-    }
+// What stands in the call: `{@greeting}`
+fn content(alloc: Global) -> Result<SlotBody, OutOfMemory> {
+    Ok(SlotBody {
+        number: 0,
+        pattern: None,
+        nodes: one(alloc, put_greeting(alloc)?)?,
+    })
+}
+
+// `<.card>{@greeting}</.card>`
+fn caller(alloc: Global) -> Result<Nodes, OutOfMemory> {
+    let place = Place::Call {
+        template: Text::copy_of(alloc, "card")?,
+        attributes: Seq::new(alloc),
+        content: content(alloc)?,
+        entries: Seq::new(alloc),
+    };
+    one(alloc, Node::Place { at: at(), place })
+}
+
+// `<b>{render_slot(@inner_block)}</b>`
+fn card(alloc: Global) -> Result<Nodes, OutOfMemory> {
+    let value = Expr::Assign(Text::copy_of(alloc, "inner_block")?);
+    let place = Place::RenderSlot {
+        value,
+        argument: None,
+    };
+    let children = one(alloc, Node::Place { at: at(), place })?;
+    let element = Node::Element {
+        at: at(),
+        name: Text::copy_of(alloc, "b")?,
+        attributes: Seq::new(alloc),
+        children,
+    };
+    one(alloc, element)
+}
+
+// The app of a page that calls another template.
+fn app_of_caller(alloc: Global) -> Result<Option<App<Greeting>>, OutOfMemory> {
+    let mut templates = one(alloc, named(alloc, "card", card(alloc)?)?)?;
+    templates.push(named(alloc, "page", caller(alloc)?)?)?;
+    greeting_app(alloc, templates, one(alloc, content(alloc)?)?)
 }
 
 fn spelled(alloc: Global, sent: Result<Part, PageFault>) -> Result<Text, OutOfMemory> {
@@ -124,16 +153,45 @@ fn join_at(
     }
 }
 
+// What is sent of a page at a message that changes no assign.
+fn told(
+    alloc: Global,
+    app: &App<Greeting>,
+    page: &mut LivePage,
+    rest: &mut Rest,
+) -> Result<Text, OutOfMemory> {
+    let sent = page.info(alloc, app, &Value::Nil, rest);
+    spelled(alloc, sent)
+}
+
 #[test]
 fn a_page_is_joined(rt: HostRuntime) -> Result<(), Fail> {
     let alloc = rt.alloc();
     let mut rest = Rest::new(alloc, 1, 1024);
-    if let Some(app) = greeting_app(alloc)? {
+    if let Some(app) = app_of_greeting(alloc)? {
         if let Some((_page, tree)) = joined(alloc, &app, &mut rest)? {
             assert_eq!(rt;
                 tree.as_str(),
                 "{\"0\":\" title=\\\"hello\\\"\",\"1\":\" lang=\\\"hello\\\"\",\"2\":\"hello\",\"s\":[\"<p\",\"\",\">\",\"</p>\"]}"
             );
+            return Ok(());
+        }
+    }
+    Err("not joined")?
+}
+
+#[test]
+fn a_page_that_calls_a_template_is_joined(rt: HostRuntime) -> Result<(), Fail> {
+    let alloc = rt.alloc();
+    let mut rest = Rest::new(alloc, 1, 1024);
+    if let Some(app) = app_of_caller(alloc)? {
+        if let Some((page, tree)) = joined(alloc, &app, &mut rest)? {
+            assert_eq!(rt;
+                tree.as_str(),
+                "{\"0\":{\"0\":{\"0\":{\"0\":\"hello\",\"s\":[\"\",\"\"]},\"s\":[\"\",\"\"]},\"s\":[\"<b>\",\"</b>\"]},\"s\":[\"\",\"\"]}"
+            );
+            let mut page = page;
+            assert_eq!(rt; told(alloc, &app, &mut page, &mut rest)?.as_str(), "{}");
             return Ok(());
         }
     }

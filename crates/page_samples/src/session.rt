@@ -1,10 +1,9 @@
 //! A page that greets: it is joined, and its frame is read.
+use crate::apps::{greeting_app, named, one};
 use ast_core::{Expr, Location, Node, Nodes, Place};
 use live_page::App;
 use machine_api::Handled;
-use route_table::Routes;
 use session_core::Session;
-use slot_compile::{Compiled, compile};
 use std::alloc::Global;
 use std::sync::Arc;
 use std::test::Fail;
@@ -35,21 +34,10 @@ fn template(alloc: Global) -> Result<Nodes, OutOfMemory> {
     Ok(nodes)
 }
 
-// The app of a template at `/`.
-fn app_of(alloc: Global, compiled: Compiled) -> Result<Option<App<Greeting>>, OutOfMemory> {
-    let mut paths = Seq::new(alloc);
-    paths.push(Text::copy_of(alloc, "/")?)?;
-    match Routes::build(alloc, &paths) {
-        Ok(routes) => Ok(Some(App::build(compiled, routes, Greeting))),
-        Err(_) => Ok(None),
-    }
-}
-
-fn greeting_app(alloc: Global) -> Result<Option<App<Greeting>>, OutOfMemory> {
-    match compile(alloc, template(alloc)?)? {
-        Some(compiled) => app_of(alloc, compiled),
-        None => Ok(None),
-    }
+// The app of that template alone.
+fn app_of_greeting(alloc: Global) -> Result<Option<App<Greeting>>, OutOfMemory> {
+    let page = named(alloc, "page", template(alloc)?)?;
+    greeting_app(alloc, one(alloc, page)?, Seq::new(alloc))
 }
 
 fn joins(session: &mut Session<Greeting>) -> bool {
@@ -80,7 +68,7 @@ fn joined_frames(alloc: Global, app: App<Greeting>) -> Result<Frames, OutOfMemor
 #[test]
 fn a_page_is_joined(rt: HostRuntime) -> Result<(), Fail> {
     let alloc = rt.alloc();
-    if let Some(app) = greeting_app(alloc)? {
+    if let Some(app) = app_of_greeting(alloc)? {
         let frames = joined_frames(alloc, app)?;
         assert_eq!(rt; frames.len(), 1);
         return Ok(());

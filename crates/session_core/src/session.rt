@@ -39,13 +39,14 @@ pub struct Session<V: Views> {
 
 impl<V: Views> Model for Session<V> {
     ghost use Rattle.std.specs.Coded.{codes};
-    ghost use Rattle.ast_core.specs.contracts.node.Node as row;
+    ghost use Rattle.ast_core.specs.contracts.node.Node as node;
+    ghost use Rattle.ast_core.specs.contracts.pattern.Pattern as pattern;
     ghost use Rattle.session_core.specs.Machine.{Machine};
     ghost use Rattle.session_core.specs.Keeps.{machine_of, KeepsAll};
 
     ghost Value = { Machine V };
 
-    ghost coded = { Prim.hlevel (codes, row.the_row.coded) };
+    ghost coded = { Prim.hlevel (codes, node.the_row.coded, pattern.the_row.coded) };
 
     ghost view = { machine_of };
 
