@@ -18,7 +18,6 @@ use Rattle.doc_model.specs.Process.{World, Route, Page, Turning, Outcome, levels
 use Rattle.doc_model.proofs.Results.{On, on_made, on_bind, on_weaker, on_all}
 use Rattle.doc_model.proofs.Journals.{page_of, scope_before, walk_before}
 use Rattle.client_page.specs.Shown.{IsPlainWorld}
-use Rattle.client_page.proofs.Few.{count_few}
 use Rattle.client_page.proofs.Places.{on_then, Rendered, renders_plainly}
 use Rattle.client_page.proofs.Beside.{AreWhole}
 
@@ -87,7 +86,7 @@ outcome_of w v j t s x = record { page = page_of w v j t s x.0 x.1; rest = x.1.r
 
 module _ (w : World) (plain : IsPlainWorld w) where
   pub drawn_plainly : (v : ℕ) (s : Turning) → On (Rendered (w.template_of v) (walk_before s)) (render_state (views_of w.views) w.site levels (scope_before s) (w.template_of v) (walk_before s))
-  drawn_plainly v s = renders_plainly Rest (views_of w.views) w.site levels (scope_before s) (w.template_of v) (walk_before s) (plain.plain v) (count_few (w.template_of v) (plain.few v))
+  drawn_plainly v s = renders_plainly Rest (views_of w.views) w.site plain.site levels (scope_before s) (w.template_of v) (walk_before s) (plain.views v)
 
   rendered_whole : (v : ℕ) (j : Option (List ℕ)) (t : List ℕ) (s : Turning) → RestWhole s.rest → On OutcomeWhole (rendered_page w v j t s)
   rendered_whole v j t s h =

@@ -14,11 +14,10 @@ use Rattle.doc_model.specs.Whole.{whole_places}
 use Rattle.doc_model.specs.Lean.{lean_places}
 use Rattle.doc_model.specs.Components.{parts, part_at, option_tree, part_numbers, whole_tree, lean_parts, lean_diff}
 use Rattle.doc_model.proofs.StepKinds.{Carries}
-use Rattle.client_merge.specs.Laws.{reach}
 use Rattle.client_merge.specs.Alike.{frame_bytes}
-use Rattle.client_page.specs.Shown.{IsReadable}
-use Rattle.client_page.proofs.Places.{how_many}
-use Rattle.client_page.proofs.Trees.{IsFit, ChangesFit, FewRight, both_to, no_parts, counted, wholes_fit, diff_fits}
+use Rattle.client_page.specs.Shown.{IsBounded, DiffIsBounded, BodyIsBounded, IsReadable}
+use Rattle.client_page.proofs.Places.{how_many, AreRight}
+use Rattle.client_page.proofs.Trees.{IsFit, ChangesFit, both_to, no_parts, counted, wholes_fit, leans_fit}
 use Rattle.client_page.proofs.Fit.{node_members}
 use Rattle.client_page.proofs.Beside.{AreWhole, changes_diff, changes_whole_numbers, node_tree, node_whole_numbers}
 use Rattle.client_page.proofs.ReadPlain.{read_plain}
@@ -40,35 +39,35 @@ BodyFits _ = Unit {0}
 
 -- ---- the whole tree
 
-pub whole_fits : (st : List (List ℕ)) (is : Items) (es : List Pushed) → FewRight is → length st ≡ suc (how_many is) → BodyFits (rendered (whole_tree st is) es)
-whole_fits st is es h around = subst (λ d. TreeFits d es) (sym sent) ((λ whole. node_whole_numbers es st (whole_places is) fit.2 whole), (λ plain. node_tree es st (whole_places is) fit plain))
+pub whole_fits : (st : List (List ℕ)) (is : Items) (es : List Pushed) → AreRight is → IsBounded (node st (whole_places is)) → length st ≡ suc (how_many is) → BodyFits (rendered (whole_tree st is) es)
+whole_fits st is es h few around = subst (λ d. TreeFits d es) (sym sent) ((λ whole. node_whole_numbers es st (whole_places is) fit.2 whole), (λ plain. node_tree es st (whole_places is) fit plain))
   where
     fit : IsFit (node st (whole_places is))
-    fit = (subst (λ n. n < 2 ^ 64) (sym (counted is)) h.1, around ∙ ap suc (sym (counted is)), wholes_fit is h.0)
+    fit = (few.0, around ∙ ap suc (sym (counted is)), wholes_fit is h few.1)
 
     sent : page_tree_json (whole_tree st is) es ≡ object (with_events es (node_members st (whole_places is)))
-    sent = ap (λ ps. object (with_events es (with_components (components_json (λ n. option_tree (part_at n (parts is))) (part_numbers ps)) (members_of (tree_json (node st (whole_places is))))))) (no_parts is h.0)
+    sent = ap (λ ps. object (with_events es (with_components (components_json (λ n. option_tree (part_at n (parts is))) (part_numbers ps)) (members_of (tree_json (node st (whole_places is))))))) (no_parts is h)
 
 -- ---- the lean diff
 
-diff_sent : (is js : Items) (es : List Pushed) → FewRight is → FewRight js → DiffFits (page_diff_json (lean_diff is js) es) es
-diff_sent is js es h g = subst (λ d. DiffFits d es) (sym sent) ((λ whole. changes_whole_numbers es (lean_places is js) fit.1 whole), (λ plain. changes_diff es (lean_places is js) fit.0 fit.1 plain))
+diff_sent : (is js : Items) (es : List Pushed) → AreRight is → AreRight js → DiffIsBounded (lean_diff is js) → DiffFits (page_diff_json (lean_diff is js) es) es
+diff_sent is js es h g few = subst (λ d. DiffFits d es) (sym sent) ((λ whole. changes_whole_numbers es (lean_places is js) fit whole), (λ plain. changes_diff es (lean_places is js) few.0 fit plain))
   where
-    fit : (reach (lean_places is js) < 2 ^ 64) × ChangesFit (lean_places is js)
-    fit = diff_fits is js h g
+    fit : ChangesFit (lean_places is js)
+    fit = leans_fit is js h g few.1
 
     sent : page_diff_json (lean_diff is js) es ≡ object (with_events es (changes_json 0 (lean_places is js)))
-    sent = ap (λ ps. object (with_events es (with_components (changed_json (lean_parts (parts is) ps)) (changes_json 0 (lean_places is js))))) (no_parts js g.0)
+    sent = ap (λ ps. object (with_events es (with_components (changed_json (lean_parts (parts is) ps)) (changes_json 0 (lean_places is js))))) (no_parts js g)
 
-pub told_fits : (is js : Items) (b : FrameBody) → FewRight is → FewRight js → Carries (lean_diff is js) b → BodyFits b
-told_fits is js (changed d es) h g c = subst (λ x. DiffFits (page_diff_json x es) es) (sym c) (diff_sent is js es h g)
-told_fits is js (push d es) h g c = subst (λ x. DiffFits (page_diff_json x es) es) (sym c) (diff_sent is js es h g)
-told_fits is js empty h g c = absurd c
-told_fits is js no_cids h g c = absurd c
-told_fits is js (refusal reason) h g c = absurd c
-told_fits is js (rendered t es) h g c = absurd c
-told_fits is js closed h g c = absurd c
-told_fits is js (faulted reason) h g c = absurd c
+pub told_fits : (is js : Items) (b : FrameBody) → AreRight is → AreRight js → BodyIsBounded b → Carries (lean_diff is js) b → BodyFits b
+told_fits is js (changed d es) h g few c = subst (λ x. DiffFits (page_diff_json x es) es) (sym c) (diff_sent is js es h g (subst DiffIsBounded c few))
+told_fits is js (push d es) h g few c = subst (λ x. DiffFits (page_diff_json x es) es) (sym c) (diff_sent is js es h g (subst DiffIsBounded c few))
+told_fits is js empty h g few c = absurd c
+told_fits is js no_cids h g few c = absurd c
+told_fits is js (refusal reason) h g few c = absurd c
+told_fits is js (rendered t es) h g few c = absurd c
+told_fits is js closed h g few c = absurd c
+told_fits is js (faulted reason) h g few c = absurd c
 
 -- ---- frames
 

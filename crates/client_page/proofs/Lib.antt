@@ -1,4 +1,3 @@
-pub mod Few
 pub mod Places
 pub mod Trees
 pub mod Fit

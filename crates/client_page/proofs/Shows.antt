@@ -26,8 +26,8 @@ once_none ss h = subst Once (sym h) tt
 
 is_linked : (w : World) → IsPlainWorld w → IsLinked w
 is_linked w plain = record {
-  of_view = λ v. once_none (streams_in (w.template_of v)) (plain_no_streams (w.template_of v) (plain.plain v));
-  of_module = λ m. once_none (streams_in (w.site.root m)) (ap (λ s. streams_in (s.root m)) plain.calls_nothing);
+  of_view = λ v. once_none (streams_in (w.template_of v)) (plain_no_streams (w.template_of v) (plain.views v));
+  of_module = λ m. once_none (streams_in (w.site.root m)) (plain_no_streams (w.site.root m) (plain.modules m));
 }
 
 -- ---- without components a page shows the same through any number of them
@@ -69,4 +69,4 @@ client_shows_page w plain es readable =
     let fs = frames_from w begin_standing es in
     let all = all_frames_show w es (is_linked w plain) in
     shows_alike w (replay_journal w es).state.page (client_takes_all all.0 None fs) (client_reads_all None (spelled fs)) all.1
-    (all_alike all.0 None fs tt (small_frames fs (frames_sound w plain begin_standing es tt) (frames_sent w plain begin_standing es) readable))
+    (all_alike all.0 None fs tt (small_frames fs (frames_sound w plain begin_standing es tt readable) (frames_sent w plain begin_standing es) readable))

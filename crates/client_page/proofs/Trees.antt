@@ -3,14 +3,15 @@ use Rattle.std.proofs.Common.{◌≡◌, ◌⊎◌, inl, inr, ℕ, suc, ◌<◌,
 use Rattle.std.proofs.lemmas.Bool.Decides.{eqb_tells}
 use Rattle.diff_tree.specs.Tree.{Tree, text, number, node, list, stream, held, Trees, no_trees, tree, count, Rows, no_rows, row, all_fit, Change, write, inner, rows, batch, Changes, no_changes, skip, change}
 use Rattle.doc_model.specs.Environment.{same_reading}
-use Rattle.doc_model.specs.Trace.{Items, no_items, item, Item, met_text, met_nothing, met_branch, met_rows, met_call, met_slots, met_component, met_stream, ItemRows, no_item_rows, item_row}
-use Rattle.doc_model.specs.Whole.{whole_places, whole_place, whole_rows}
-use Rattle.doc_model.specs.Lean.{is_empty, unless_empty, option_change, rows_change, lean_places, lean_place}
-use Rattle.doc_model.specs.Components.{parts, parts_of, parts_of_rows, part_at, option_tree, part_numbers, whole_tree, lean_parts, lean_diff}
+use Rattle.doc_model.specs.Trace.{Items, no_items, item, Item, met_text, met_nothing, met_branch, met_rows, met_call, met_slots, met_component, met_stream, ItemRows, no_item_rows, item_row, Slots, no_slots, slot_of}
+use Rattle.doc_model.specs.Whole.{empties, whole_places, whole_place, whole_rows, whole_slots, slots_tree}
+use Rattle.doc_model.specs.Lean.{is_empty, unless_empty, option_change, rows_change, slot_count, lean_places, lean_place, lean_slots}
+use Rattle.doc_model.specs.Components.{parts, parts_of, parts_of_rows, parts_of_slots, part_at, option_tree, part_numbers, whole_tree, lean_parts, lean_diff}
 use Rattle.client_merge.specs.Laws.{IsSmall, AreSmall, RowsAreSmall, ChangeIsSmall, ChangesAreSmall, reach}
 use Rattle.client_merge.specs.Alike.{IsSmallPage, IsSmallDiff}
 use Rattle.client_merge.proofs.Changes.{Holds}
-use Rattle.client_page.proofs.Places.{how_many, AreRight, IsRight, RowsAreRight}
+use Rattle.client_page.specs.Shown.{IsBounded, AreBounded, RowsAreBounded, ChangeIsBounded, ChangesAreBounded, DiffIsBounded}
+use Rattle.client_page.proofs.Places.{how_many, AreRight, IsRight, RowsAreRight, SlotsAreRight}
 
 -- ---- trees and changes that fit
 
@@ -97,25 +98,37 @@ pub counted : (is : Items) → count (whole_places is) ≡ how_many is
 counted no_items = refl
 counted (item i is) = ap suc (counted is)
 
+empties_len : (ts : Trees) → length (empties ts) ≡ suc (count ts)
+empties_len no_trees = refl
+empties_len (tree t ts) = ap suc (empties_len ts)
+
+slots_fit : (ts : Trees) → IsBounded (slots_tree ts) → (AreBounded ts → AreFit ts) → IsFit (slots_tree ts)
+slots_fit no_trees b h = tt
+slots_fit (tree t ts) b h = (b.0, empties_len (tree t ts), h b.1)
+
 mutual
-  pub wholes_fit : (is : Items) → AreRight is → AreFit (whole_places is)
-  wholes_fit no_items h = tt
-  wholes_fit (item i is) h = (whole_fits i h.0, wholes_fit is h.1)
+  pub wholes_fit : (is : Items) → AreRight is → AreBounded (whole_places is) → AreFit (whole_places is)
+  wholes_fit no_items h b = tt
+  wholes_fit (item i is) h b = (whole_fits i h.0 b.0, wholes_fit is h.1 b.1)
 
-  whole_fits : (i : Item) → IsRight i → IsFit (whole_place i)
-  whole_fits (met_text r t) h = tt
-  whole_fits met_nothing h = tt
-  whole_fits (met_branch i st is) h = (subst (λ n. n < 2 ^ 64) (sym (counted is)) h.0, h.1 ∙ ap suc (sym (counted is)), wholes_fit is h.2)
-  whole_fits (met_rows r st no_item_rows) h = tt
-  whole_fits (met_rows r st (item_row is rs)) h = rows_whole_fit (length st) (item_row is rs) h
-  whole_fits (met_call st is) h = absurd h
-  whole_fits (met_slots ss) h = absurd h
-  whole_fits (met_component n st is) h = absurd h
-  whole_fits (met_stream name rs b st new) h = absurd h
+  whole_fits : (i : Item) → IsRight i → IsBounded (whole_place i) → IsFit (whole_place i)
+  whole_fits (met_text r t) h b = tt
+  whole_fits met_nothing h b = tt
+  whole_fits (met_branch i st is) h b = (b.0, h.0 ∙ ap suc (sym (counted is)), wholes_fit is h.1 b.1)
+  whole_fits (met_rows r st no_item_rows) h b = tt
+  whole_fits (met_rows r st (item_row is rs)) h b = rows_whole_fit (length st) (item_row is rs) h b
+  whole_fits (met_call st is) h b = (b.0, h.0 ∙ ap suc (sym (counted is)), wholes_fit is h.1 b.1)
+  whole_fits (met_slots ss) h b = slots_fit (whole_slots ss) b (slots_whole_fit ss h)
+  whole_fits (met_component n st is) h b = absurd h
+  whole_fits (met_stream name rs q st new) h b = absurd h
 
-  rows_whole_fit : (n : ℕ) (rs : ItemRows) → RowsAreRight n rs → RowsFit n (whole_rows rs)
-  rows_whole_fit n no_item_rows h = tt
-  rows_whole_fit n (item_row is rs) h = (h.0 ∙ ap suc (sym (counted is)), wholes_fit is h.1, rows_whole_fit n rs h.2)
+  rows_whole_fit : (n : ℕ) (rs : ItemRows) → RowsAreRight n rs → RowsAreBounded (whole_rows rs) → RowsFit n (whole_rows rs)
+  rows_whole_fit n no_item_rows h b = tt
+  rows_whole_fit n (item_row is rs) h b = (h.0 ∙ ap suc (sym (counted is)), wholes_fit is h.1 b.0, rows_whole_fit n rs h.2 b.1)
+
+  slots_whole_fit : (ss : Slots) → SlotsAreRight ss → AreBounded (whole_slots ss) → AreFit (whole_slots ss)
+  slots_whole_fit no_slots h b = tt
+  slots_whole_fit (slot_of k st is ss) h b = ((b.0.0, h.0 ∙ ap suc (sym (counted is)), wholes_fit is h.1 b.0.1), slots_whole_fit ss h.2 b.1)
 
 -- without components
 mutual
@@ -126,10 +139,10 @@ mutual
   no_parts_of : (i : Item) → IsRight i → parts_of i ≡ []
   no_parts_of (met_text r t) h = refl
   no_parts_of met_nothing h = refl
-  no_parts_of (met_branch i st is) h = no_parts is h.2
+  no_parts_of (met_branch i st is) h = no_parts is h.1
   no_parts_of (met_rows r st rs) h = no_parts_of_rows (length st) rs h
-  no_parts_of (met_call st is) h = absurd h
-  no_parts_of (met_slots ss) h = absurd h
+  no_parts_of (met_call st is) h = no_parts is h.1
+  no_parts_of (met_slots ss) h = no_parts_of_slots ss h
   no_parts_of (met_component n st is) h = absurd h
   no_parts_of (met_stream name rs b st new) h = refl
 
@@ -137,85 +150,107 @@ mutual
   no_parts_of_rows n no_item_rows h = refl
   no_parts_of_rows n (item_row is rs) h = ap (λ ps. ps ++ parts_of_rows rs) (no_parts is h.1) ∙ no_parts_of_rows n rs h.2
 
--- what a rendering met, of few places
-abbrev pub FewRight : Items → Type 0
-FewRight is = AreRight is × (how_many is < 2 ^ 64)
+  no_parts_of_slots : (ss : Slots) → SlotsAreRight ss → parts_of_slots ss ≡ []
+  no_parts_of_slots no_slots h = refl
+  no_parts_of_slots (slot_of b st is ss) h = ap (λ ps. ps ++ parts_of_slots ss) (no_parts is h.1) ∙ no_parts_of_slots ss h.2
 
-pub page_small : (st : List (List ℕ)) (is : Items) → FewRight is → IsSmallPage (whole_tree st is)
-page_small st is h =
-    let none : parts is ≡ [] = no_parts is h.0 in
-    ((subst (λ n. n < 2 ^ 64) (sym (counted is)) h.1, fits_small (whole_places is) (wholes_fit is h.0)), ap part_numbers none, λ n. ap (λ ps. option_tree (part_at n ps)) none)
+pub page_small : (st : List (List ℕ)) (is : Items) → AreRight is → IsBounded (node st (whole_places is)) → IsSmallPage (whole_tree st is)
+page_small st is h b =
+    let none : parts is ≡ [] = no_parts is h in
+    ((b.0, fits_small (whole_places is) (wholes_fit is h b.1)), ap part_numbers none, λ n. ap (λ ps. option_tree (part_at n ps)) none)
 
 -- ---- the lean diff
 
-unless_fits : (cs : Changes) → reach cs < 2 ^ 64 → ChangesFit cs → Holds (unless_empty cs) ChangeFits
-unless_fits cs few h = by (is_empty cs)
-  where
-    by : (b : Bool) → Holds (if b then None else Some (inner cs)) ChangeFits
-    by true = tt
-    by false = (few, h)
+-- what is sent of a place fits, where it is bounded
+abbrev Fits : Option Change → Type 0
+Fits o = Holds o ChangeIsBounded → Holds o ChangeFits
 
-if_changed : (b : Bool) (o : Option Change) → Holds o ChangeFits → Holds (if b then None else o) ChangeFits
-if_changed true o h = tt
-if_changed false o h = h
+unless_fits : (cs : Changes) → (ChangesAreBounded cs → ChangesFit cs) → Fits (unless_empty cs)
+unless_fits cs h = by (is_empty cs)
+  where
+    by : (b : Bool) → Fits (if b then None else Some (inner cs))
+    by true = λ few. tt
+    by false = λ few. (few.0, h few.1)
+
+either_fits : (b : Bool) (o p : Option Change) → Fits o → Fits p → Fits (if b then o else p)
+either_fits true o p h g = h
+either_fits false o p h g = g
+
+none_fits : Fits None
+none_fits few = tt
 
 -- rows against those before
-rows_fit : (st : List (List ℕ)) (before : Rows) (rs : ItemRows) → RowsAreRight (length st) rs → Holds (rows_change st before (whole_rows rs)) ChangeFits
-rows_fit st no_rows no_item_rows h = tt
-rows_fit st no_rows (item_row is rs) h = rows_whole_fit (length st) (item_row is rs) h
-rows_fit st (row q qs) no_item_rows h = tt
-rows_fit st (row q qs) (item_row is rs) h =
-    subst (λ n. RowsFit n (whole_rows (item_row is rs))) (h.0 ∙ ap suc (sym (counted is))) (rows_whole_fit (length st) (item_row is rs) h)
+rows_fit : (st : List (List ℕ)) (before : Rows) (rs : ItemRows) → RowsAreRight (length st) rs → Fits (rows_change st before (whole_rows rs))
+rows_fit st no_rows no_item_rows h few = tt
+rows_fit st no_rows (item_row is rs) h few = rows_whole_fit (length st) (item_row is rs) h few
+rows_fit st (row q qs) no_item_rows h few = tt
+rows_fit st (row q qs) (item_row is rs) h few =
+    subst (λ n. RowsFit n (whole_rows (item_row is rs))) (h.0 ∙ ap suc (sym (counted is))) (rows_whole_fit (length st) (item_row is rs) h few)
 
-add_change : (o : Option Change) (cs : Changes) (n : ℕ) → Holds o ChangeFits → ChangesFit cs × (reach cs ≤ n) → ChangesFit (option_change o cs) × (reach (option_change o cs) ≤ suc n)
-add_change None cs n s rest = (rest.0, let below = rest.1 in omega arith)
-add_change (Some c) cs n s rest = ((s, rest.0), let below = rest.1 in omega arith)
+add_change : (o : Option Change) (cs : Changes) → Fits o → (ChangesAreBounded cs → ChangesFit cs) → ChangesAreBounded (option_change o cs) → ChangesFit (option_change o cs)
+add_change None cs h g few = g few
+add_change (Some c) cs h g few = (h few.0, g few.1)
 
 mutual
-  pub leans_fit : (is js : Items) → AreRight is → AreRight js → ChangesFit (lean_places is js) × (reach (lean_places is js) ≤ how_many js)
-  leans_fit no_items no_items h g = (tt, omega arith)
-  leans_fit no_items (item j js) h g = (tt, omega arith)
-  leans_fit (item i is) no_items h g = (tt, omega arith)
-  leans_fit (item i is) (item j js) h g = add_change (lean_place i j) (lean_places is js) (how_many js) (lean_fits i j h.0 g.0) (leans_fit is js h.1 g.1)
+  pub leans_fit : (is js : Items) → AreRight is → AreRight js → ChangesAreBounded (lean_places is js) → ChangesFit (lean_places is js)
+  leans_fit no_items no_items h g few = tt
+  leans_fit no_items (item j js) h g few = tt
+  leans_fit (item i is) no_items h g few = tt
+  leans_fit (item i is) (item j js) h g few = add_change (lean_place i j) (lean_places is js) (lean_fits i j h.0 g.0) (leans_fit is js h.1 g.1) few
 
-  lean_fits : (i j : Item) → IsRight i → IsRight j → Holds (lean_place i j) ChangeFits
-  lean_fits (met_text r t) (met_text q u) h g = if_changed (same_reading r q) (Some (write (text u))) tt
-  lean_fits (met_text r t) met_nothing h g = tt
+  lean_fits : (i j : Item) → IsRight i → IsRight j → Fits (lean_place i j)
+  lean_fits (met_text r t) (met_text q u) h g = either_fits (same_reading r q) None (Some (write (text u))) none_fits (λ few. tt)
+  lean_fits (met_text r t) met_nothing h g = whole_fits met_nothing g
   lean_fits (met_text r t) (met_branch n st js) h g = whole_fits (met_branch n st js) g
   lean_fits (met_text r t) (met_rows q st rs) h g = whole_fits (met_rows q st rs) g
-  lean_fits met_nothing (met_text q u) h g = tt
-  lean_fits met_nothing met_nothing h g = tt
+  lean_fits (met_text r t) (met_call st js) h g = whole_fits (met_call st js) g
+  lean_fits (met_text r t) (met_slots us) h g = whole_fits (met_slots us) g
+  lean_fits met_nothing (met_text q u) h g = whole_fits (met_text q u) g
+  lean_fits met_nothing met_nothing h g = none_fits
   lean_fits met_nothing (met_branch n st js) h g = whole_fits (met_branch n st js) g
   lean_fits met_nothing (met_rows q st rs) h g = whole_fits (met_rows q st rs) g
-  lean_fits (met_branch m s is) (met_text q u) h g = tt
-  lean_fits (met_branch m s is) met_nothing h g = tt
-  lean_fits (met_branch m s is) (met_branch n st js) h g = by (m == n) (leans_fit is js h.2 g.2)
-    where
-      by : (b : Bool) → ChangesFit (lean_places is js) × (reach (lean_places is js) ≤ how_many js) → Holds (if b then unless_empty (lean_places is js) else Some (write (node st (whole_places js)))) ChangeFits
-      by true l = let few = g.0 in let below = l.1 in unless_fits (lean_places is js) (omega arith) l.0
-      by false l = whole_fits (met_branch n st js) g
+  lean_fits met_nothing (met_call st js) h g = whole_fits (met_call st js) g
+  lean_fits met_nothing (met_slots us) h g = whole_fits (met_slots us) g
+  lean_fits (met_branch m s is) (met_text q u) h g = whole_fits (met_text q u) g
+  lean_fits (met_branch m s is) met_nothing h g = whole_fits met_nothing g
+  lean_fits (met_branch m s is) (met_branch n st js) h g =
+      either_fits (m == n) (unless_empty (lean_places is js)) (Some (write (node st (whole_places js)))) (unless_fits (lean_places is js) (leans_fit is js h.1 g.1)) (whole_fits (met_branch n st js) g)
   lean_fits (met_branch m s is) (met_rows q st rs) h g = whole_fits (met_rows q st rs) g
-  lean_fits (met_rows r s qs) (met_text q u) h g = tt
-  lean_fits (met_rows r s qs) met_nothing h g = tt
+  lean_fits (met_branch m s is) (met_call st js) h g = whole_fits (met_call st js) g
+  lean_fits (met_branch m s is) (met_slots us) h g = whole_fits (met_slots us) g
+  lean_fits (met_rows r s qs) (met_text q u) h g = whole_fits (met_text q u) g
+  lean_fits (met_rows r s qs) met_nothing h g = whole_fits met_nothing g
   lean_fits (met_rows r s qs) (met_branch n st js) h g = whole_fits (met_branch n st js) g
-  lean_fits (met_rows r s qs) (met_rows q st rs) h g = if_changed (same_reading r q) (rows_change st (whole_rows qs) (whole_rows rs)) (rows_fit st (whole_rows qs) rs g)
-  lean_fits (met_call st is) j h g = absurd h
-  lean_fits (met_slots ss) j h g = absurd h
+  lean_fits (met_rows r s qs) (met_rows q st rs) h g = either_fits (same_reading r q) None (rows_change st (whole_rows qs) (whole_rows rs)) none_fits (rows_fit st (whole_rows qs) rs g)
+  lean_fits (met_rows r s qs) (met_call st js) h g = whole_fits (met_call st js) g
+  lean_fits (met_rows r s qs) (met_slots us) h g = whole_fits (met_slots us) g
+  lean_fits (met_call s is) (met_text q u) h g = whole_fits (met_text q u) g
+  lean_fits (met_call s is) met_nothing h g = whole_fits met_nothing g
+  lean_fits (met_call s is) (met_branch n st js) h g = whole_fits (met_branch n st js) g
+  lean_fits (met_call s is) (met_rows q st rs) h g = whole_fits (met_rows q st rs) g
+  lean_fits (met_call s is) (met_call st js) h g = unless_fits (lean_places is js) (leans_fit is js h.1 g.1)
+  lean_fits (met_call s is) (met_slots us) h g = whole_fits (met_slots us) g
+  lean_fits (met_slots ss) (met_text q u) h g = whole_fits (met_text q u) g
+  lean_fits (met_slots ss) met_nothing h g = whole_fits met_nothing g
+  lean_fits (met_slots ss) (met_branch n st js) h g = whole_fits (met_branch n st js) g
+  lean_fits (met_slots ss) (met_rows q st rs) h g = whole_fits (met_rows q st rs) g
+  lean_fits (met_slots ss) (met_call st js) h g = whole_fits (met_call st js) g
+  lean_fits (met_slots ss) (met_slots us) h g =
+      either_fits (slot_count ss == slot_count us) (unless_empty (lean_slots ss us)) (Some (write (slots_tree (whole_slots us)))) (unless_fits (lean_slots ss us) (slots_lean_fit ss us h g)) (whole_fits (met_slots us) g)
   lean_fits (met_component n st is) j h g = absurd h
   lean_fits (met_stream name rs b st new) j h g = absurd h
-  lean_fits i (met_call st is) h g = absurd g
-  lean_fits i (met_slots ss) h g = absurd g
   lean_fits i (met_component n st is) h g = absurd g
   lean_fits i (met_stream name rs b st new) h g = absurd g
 
-pub diff_fits : (is js : Items) → FewRight is → FewRight js → (reach (lean_places is js) < 2 ^ 64) × ChangesFit (lean_places is js)
-diff_fits is js h g =
-    let l = leans_fit is js h.0 g.0 in
-    let below = l.1 in
-    let few = g.1 in
-    (omega arith, l.0)
+  slots_lean_fit : (ss us : Slots) → SlotsAreRight ss → SlotsAreRight us → ChangesAreBounded (lean_slots ss us) → ChangesFit (lean_slots ss us)
+  slots_lean_fit no_slots no_slots h g few = tt
+  slots_lean_fit no_slots (slot_of c st js us) h g few = tt
+  slots_lean_fit (slot_of b s is ss) no_slots h g few = tt
+  slots_lean_fit (slot_of b s is ss) (slot_of c st js us) h g few =
+      add_change (if b == c then unless_empty (lean_places is js) else Some (write (node st (whole_places js)))) (lean_slots ss us)
+      (either_fits (b == c) (unless_empty (lean_places is js)) (Some (write (node st (whole_places js)))) (unless_fits (lean_places is js) (leans_fit is js h.1 g.1))
+      (λ bounded. (bounded.0, g.0 ∙ ap suc (sym (counted js)), wholes_fit js g.1 bounded.1)))
+      (slots_lean_fit ss us h.2 g.2) few
 
-pub diff_small : (is js : Items) → FewRight is → FewRight js → IsSmallDiff (lean_diff is js)
-diff_small is js h g =
-    let l = diff_fits is js h g in
-    (l.0, changes_small (lean_places is js) l.1, ap (lean_parts (parts is)) (no_parts js g.0))
+pub diff_small : (is js : Items) → AreRight is → AreRight js → DiffIsBounded (lean_diff is js) → IsSmallDiff (lean_diff is js)
+diff_small is js h g few = (few.0, changes_small (lean_places is js) (leans_fit is js h g few.1), ap (lean_parts (parts is)) (no_parts js g))

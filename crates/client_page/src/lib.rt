@@ -8,12 +8,11 @@ use live_page::App;
 use view_api::Views;
 
 /// After any entries of a process of this app, a client that reads the bytes of all its frames shows the full rendering
-/// of its page where it is up, and holds no page where it is down. The bytes of each frame are UTF-8, and its JSON value
-/// is read from them.
+/// of its page where it is up, and holds no page where it is down. The bytes of each frame are UTF-8, its JSON value is
+/// read from them, and no node that it carries has 2^64 places.
 pub fn client_shows_page<V: Views>(app: &App<V>)
     ensures { ClientShowsPage (world_of V.meaning app.now) }
 {
-    // The template has fewer than 2^64 places, all of them of the kinds that are compiled.
-    let _count = app.compiled.places();
-    app.compiled.places_are_plain();
+    // Nothing in the bundle is a live call or a stream.
+    app.page.is_plain();
 }
