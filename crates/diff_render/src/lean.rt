@@ -25,11 +25,11 @@ use crate::scope::Tracking;
 use crate::values::changes_by_number;
 use crate::whole::{Whole, left, slots_node};
 use assigns_track::Tracked;
+use ast_core::Expr;
 use bundle_compile::CompiledBundle;
 use call_form::CallForm;
 use diff_tree::{Part, PlaceValue};
 use expr_eval::Bindings;
-use ast_core::Expr;
 use slot_compile::{Compiled, Dynamic, Formula};
 use std::alloc::Global;
 use text_core::{ByKey, Seq, Text};
@@ -327,7 +327,10 @@ impl<'a> Lean<'a> {
             return Ok((Some(slots_node(alloc, parts)?), Print::Slots(prints)));
         }
         let (changes, prints) = self.slots_again(alloc, scopes, before, levels)?;
-        Ok((inner(changes_by_number(alloc, changes)?), Print::Slots(prints)))
+        Ok((
+            inner(changes_by_number(alloc, changes)?),
+            Print::Slots(prints),
+        ))
     }
 
     // As many slot bodies as there were.
@@ -370,10 +373,7 @@ impl<'a> Lean<'a> {
             let (part, print) = self.whole().slot(alloc, scope, levels)?;
             return Ok((Some(PlaceValue::Node(part)), print));
         }
-        let SlotPrint {
-            scope: old,
-            places,
-        } = before;
+        let SlotPrint { scope: old, places } = before;
         self.slot_kept(alloc, scope, old, places, levels)
     }
 
@@ -399,7 +399,14 @@ impl<'a> Lean<'a> {
         let mut tracking = Tracking::new(alloc);
         tracking.enter(variables, Some(old.variables))?;
         tracking.enter(bound, Some(old.bound))?;
-        let (change, places) = self.slot_body(alloc, number, &between, &mut tracking, places, levels)?;
+        let (change, places) = self.slot_body(
+            alloc,
+            number,
+            &between,
+            &mut tracking,
+            places,
+            levels,
+        )?;
         let Some((variables, bound)) = left(tracking.variables) else {
             return Err(RenderFault::Raised);
         };

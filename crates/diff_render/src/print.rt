@@ -11,11 +11,17 @@ pub enum Print {
     /// It showed a text: a value, or no branch.
     Text,
     /// It showed a branch.
-    Branch { choice: Choice, places: Seq<Print> },
+    Branch {
+        choice: Choice,
+        places: Seq<Print>,
+    },
     /// It went over a list: what is remembered of each row.
     Rows(Seq<Seq<Print>>),
     /// It called a template under these assigns.
-    Call { assigns: Assigns, places: Seq<Print> },
+    Call {
+        assigns: Assigns,
+        places: Seq<Print>,
+    },
     /// It showed the slot bodies of entries.
     Slots(Seq<SlotPrint>),
 }

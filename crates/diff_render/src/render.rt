@@ -60,11 +60,7 @@ pub fn next(
 }
 
 /// The text of a page under some assigns: the full rendering. It raises exactly where that does.
-pub fn page_text(
-    alloc: Global,
-    page: &CompiledView,
-    assigns: &Assigns,
-) -> Result<Text, RenderFault>
+pub fn page_text(alloc: Global, page: &CompiledView, assigns: &Assigns) -> Result<Text, RenderFault>
     ensures { ShowsText page.now (assigns_view assigns.now) result }
 {
     page.is_plain();

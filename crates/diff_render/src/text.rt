@@ -222,12 +222,7 @@ impl<'a> Whole<'a> {
 
     // A slot body under what it captured and what its `:let` binds.
     #[cycle(text)]
-    fn slot_text(
-        self,
-        alloc: Global,
-        scope: SlotScope,
-        levels: usize,
-    ) -> Result<Text, RenderFault>
+    fn slot_text(self, alloc: Global, scope: SlotScope, levels: usize) -> Result<Text, RenderFault>
         ensures { ShowsSlot (site_in self.entry.bundle.now) scope levels result }
     {
         let SlotScope {

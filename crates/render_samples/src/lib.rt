@@ -6,7 +6,9 @@ mod attributes;
 #[cfg(test)]
 mod branches;
 #[cfg(test)]
-mod compiled;
+mod bundle;
+#[cfg(test)]
+mod calls;
 #[cfg(test)]
 mod levels;
 #[cfg(test)]

@@ -1,33 +1,12 @@
 //! What is sent of a page, as text: the whole tree, and then diffs; and the page itself.
+use crate::bundle::view_of;
 use assigns_track::Tracked;
-use ast_core::{Expr, Location, Node, Nodes, Place};
 use diff_render::{Prints, RenderFault, first, next, page_text};
 use diff_tree::{Diff, Part, write_diff};
-use slot_compile::{Compiled, compile};
 use std::alloc::Global;
 use std::test::Fail;
 use text_core::{OutOfMemory, Seq, Text};
 use value_core::Value;
-
-fn put(alloc: Global, name: &str) -> Result<Node, OutOfMemory> {
-    let at = Location { line: 1, column: 1 };
-    let place = Place::Put(Expr::Assign(Text::copy_of(alloc, name)?));
-    Ok(Node::Place { at, place })
-}
-
-// `{@a} of {@b}`
-fn page(alloc: Global) -> Result<Nodes, OutOfMemory> {
-    let mut nodes = Seq::new(alloc);
-    nodes.push(put(alloc, "a")?)?;
-    nodes.push(Node::Text(Text::copy_of(alloc, " of ")?))?;
-    nodes.push(put(alloc, "b")?)?;
-    Ok(nodes)
-}
-
-fn compiled(alloc: Global) -> Result<Compiled, OutOfMemory> {
-    let page = compile(alloc, page(alloc)?)?;
-    page.ok_or(OutOfMemory)
-}
 
 fn spelled(alloc: Global, part: Part) -> Result<Text, OutOfMemory> {
     let diff = Diff::new(part, Seq::new(alloc), Seq::new(alloc));
@@ -37,7 +16,7 @@ fn spelled(alloc: Global, part: Part) -> Result<Text, OutOfMemory> {
 #[test]
 fn a_tree_and_its_diffs(rt: HostRuntime) -> Result<(), Fail> {
     let alloc = rt.alloc();
-    let page = compiled(alloc)?;
+    let page = view_of(alloc, "{@a} of {@b}", "")?;
     let mut assigns = Tracked::new(alloc);
     assigns.assign("a", Value::Text(Text::copy_of(alloc, "1 < 2")?))?;
     assert!(rt; first(alloc, &page, assigns.assigns()).is_err());

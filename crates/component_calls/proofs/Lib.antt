@@ -1,0 +1,15 @@
+pub mod Ways
+pub mod Leasts
+pub mod Shrinking
+pub mod Steps
+pub mod Seen
+pub mod Lists
+pub mod Judged
+pub mod Counted
+pub mod Added
+pub mod Numbered
+pub mod Settling
+pub mod Bare
+pub mod Kept
+pub mod Bundle
+pub mod Refusing

@@ -1,0 +1,7 @@
+use Rattle.std.proofs.Common.{◌≡◌, ◌++◌, drop}
+use Rattle.ast_core.specs.NodeView.{attributes_view}
+use Rattle.component_calls.specs.Tags.{names_of}
+use Rattle.component_calls.proofs.tags.attribute_names.Given as goal
+
+abbrev pub invariant-attributes : goal.invariant-attributes
+invariant-attributes l = l.names ++ names_of (attributes_view (drop l.attribute-index l.attribute-items)) ≡ names_of (attributes_view l.attribute-items)
