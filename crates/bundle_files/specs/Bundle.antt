@@ -1,39 +1,72 @@
--- Which folders are a bundle: two files of at most 1,048,576 bytes, a manifest `bundle.json` and the template that it
--- names.
-use Rattle.std.specs.Prelude.{ℕ, List, ◌++◌, length, codes, ◌==◌, nat_le, if◌then◌else◌, Option, Some, None, option_map, option_and_then}
-use Rattle.std.specs.Str.{is_utf8}
-use Rattle.text_core.specs.Outside.{content_of}
+-- Which folders are a bundle: a manifest `bundle.json` and templates `NAME.html.heex` that call one another. Other files
+-- are ignored.
+use Rattle.std.specs.Prelude.{◌≡◌, ◌≤◌, ℕ, List, [], length, codes, map, filter, true, Option, Some, option_and_then}
+use Rattle.std.specs.Option.{is_some}
 use Rattle.text_core.specs.declared.by_key.KeyValue.{KeyValue}
-use Rattle.ast_core.specs.Syntax.{Nodes}
-use Rattle.slot_compile.specs.Template.{syntax_of}
-use Rattle.template_reader.specs.Reading.{template_of}
+use Rattle.ast_core.specs.LinkedView.{template_view}
+use Rattle.ast_core.specs.Syntax.{Linked}
+use Rattle.ast_core.specs.declared.linked.Template.{Template}
+use Rattle.component_calls.specs.Linking.{IsLawful, known_in, linked_of}
+use Rattle.bundle_compile.specs.declared.bundle.CompiledBundle.{CompiledBundle}
+use Rattle.bundle_compile.specs.Site.{linked_in}
+use Rattle.bundle_files.specs.Files.{AreTemplates, File, is_read, nodes_of, small_file}
+use Rattle.bundle_files.specs.Manifest.{Manifest, manifest_in}
 use Rattle.bundle_files.specs.Steps.{Steps}
 use Rattle.bundle_files.specs.StepsView.{steps_view, events_view}
 use Rattle.bundle_files.specs.declared.bundle.Bundle as program
-use Rattle.bundle_files.specs.Manifest.{Manifest, manifest_in}
 
--- a bundle: the template of its view, what the view does when it is mounted, and what it does at its events
+-- a bundle: its templates, linked; the name of its view's template; what the view does when it is mounted, and what it
+-- does at its events
 pub record Bundle : Type 0 where
-  pub template : Nodes
+  pub linked : Linked
+  pub view : List ℕ
   pub mount : Steps
   pub events : List (KeyValue Steps)
 
 -- what the program's bundle stands for
 abbrev pub bundle_view : program.Bundle → Bundle
-bundle_view b = record { template = syntax_of b.compiled; mount = steps_view b.mount; events = events_view b.events }
+bundle_view b = record { linked = linked_in b.view.bundle; view = b.view.template; mount = steps_view b.mount; events = events_view b.events }
 
--- the bytes of the file of that name, where it is there and not too large
-abbrev pub small_file : List ℕ → List (List ℕ × List ℕ) → Option (List ℕ)
-small_file name fs = option_and_then (λ bytes. if nat_le (length bytes) 1048576 then Some bytes else None) (content_of name fs)
+-- what the file `bundle.json` says
+abbrev pub manifest_at : List File → Option Manifest
+manifest_at fs = option_and_then manifest_in (small_file (codes "bundle.json") fs)
 
--- the template of bytes in UTF-8
-abbrev pub template_in : List ℕ → Option Nodes
-template_in bytes = if is_utf8 bytes then template_of bytes else None
+-- templates in which something is refused
+abbrev pub IsUnlawful : List Template → Type 0
+IsUnlawful ts = IsLawful (known_in ts []) ts → ⊥
 
--- the bundle of a manifest and the template that it names
-abbrev pub bundle_with : List (List ℕ × List ℕ) → Manifest → Option Bundle
-bundle_with fs m = option_map (λ t. record { template = t; mount = m.mount; events = m.events }) (option_and_then template_in (small_file (m.template ++ codes ".html.heex") fs))
+-- a compiled bundle is that of templates, in which nothing is refused
+abbrev pub IsCompiledOf : List Template → CompiledBundle → Type 0
+IsCompiledOf ts b = IsLawful (known_in ts []) ts × (linked_in b ≡ linked_of ts [])
 
--- the bundle that the files are
-abbrev pub bundle_of : List (List ℕ × List ℕ) → Option Bundle
-bundle_of fs = if length fs == 2 then option_and_then (bundle_with fs) (option_and_then manifest_in (small_file (codes "bundle.json") fs)) else None
+-- a bundle is that of a manifest and of templates: the view's is one of them, nothing in them is refused, and the bundle
+-- holds what they are linked to
+pub record IsBundleOf (m : Manifest) (ts : List Template) (b : Bundle) : Type 0 where
+  pub there : is_some (nodes_of m.template (map template_view ts)) ≡ true
+  pub lawful : IsLawful (known_in ts []) ts
+  pub linked : b.linked ≡ linked_of ts []
+  pub view : b.view ≡ m.template
+  pub mount : b.mount ≡ m.mount
+  pub events : b.events ≡ m.events
+
+abbrev pub IsNoBundleOf : Manifest → List Template → Type 0
+IsNoBundleOf m ts = (b : Bundle) → IsBundleOf m ts b → ⊥
+
+-- files say a bundle: that of the manifest and of all templates among them
+pub record Says (fs : List File) (b : Bundle) : Type 0 where
+  pub manifest : Manifest
+  pub templates : List Template
+  pub says : manifest_at fs ≡ Some manifest
+  pub spells : AreTemplates fs (map template_view templates)
+  pub holds : IsBundleOf manifest templates b
+
+abbrev pub SaysNone : List File → Type 0
+SaysNone fs = (b : Bundle) → Says fs b → ⊥
+
+-- files are a bundle: they say it, and at most 256 of them are read
+abbrev pub IsBundle : List File → Bundle → Type 0
+IsBundle fs b = (length (filter is_read (map (λ f. f.0) fs)) ≤ 256) × Says fs b
+
+-- files are no bundle
+abbrev pub IsNoBundle : List File → Type 0
+IsNoBundle fs = (b : Bundle) → IsBundle fs b → ⊥

@@ -5,4 +5,7 @@ pub mod Fault
 pub mod Manifest
 pub mod ManifestView
 pub mod Held
+pub mod Answers
+pub mod Files
+pub mod Listed
 pub mod Bundle

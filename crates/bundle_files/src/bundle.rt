@@ -1,7 +1,7 @@
 //! What a bundle holds.
-ghost use Rattle.slot_compile.specs.Template.{IsPlain};
 
-use slot_compile::{Compiled, Formula};
+use bundle_compile::CompiledView;
+use slot_compile::Formula;
 use text_core::{ByKey, Seq, Text};
 
 /// A step of a handler.
@@ -27,12 +27,11 @@ pub type Steps = Seq<Step>;
 /// The steps of each event that a view takes, in byte order of the events' names.
 pub type Events = ByKey<Steps>;
 
-/// A bundle: the template of its view, what the view does when it is mounted, and what it does at its events. Everything
-/// in the template is compiled, also what stands inside its conditions, cases and loops.
+/// A bundle: its templates, linked and compiled, with the name of its view's template; what the view does when it is
+/// mounted, and what it does at its events.
 #[derive(Debug, Drop)]
 pub struct Bundle {
-    pub compiled: Compiled,
+    pub view: CompiledView,
     pub mount: Steps,
     pub events: Events,
-    pub ghost plain: { IsPlain compiled },
 }

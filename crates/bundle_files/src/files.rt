@@ -1,7 +1,7 @@
 //! The files of a folder.
-ghost use Rattle.std.specs.Prelude.{◌≡◌, IfOk, IfSome, map, option_map};
+ghost use Rattle.std.specs.Prelude.{◌≡◌, IfOk, IfSome, filter, map, option_map};
 ghost use Rattle.text_core.specs.Outside.{Causes, content_of};
-ghost use Rattle.bundle_files.specs.Bundle.{small_file};
+ghost use Rattle.bundle_files.specs.Files.{is_read, small_file};
 ghost use Rattle.bundle_files.specs.Held.{AllHold};
 
 use std::alloc::Global;
@@ -13,19 +13,19 @@ pub const MOST_BYTES: usize = 1_048_576;
 /// Files as their names with their contents.
 pub type Files = Seq<(Text, Bytes)>;
 
-/// The listed files, of each as much as tells whether it is too large.
+/// The files that are read, of each as much as tells whether it is too large.
 pub fn read_files<F: Folder>(
     alloc: Global,
     folder: &mut F,
     names: &[Text],
 ) -> Result<Files, FolderFault>
-    requires { F.listed folder.old ≡ names.now }
+    requires { names.now ≡ filter is_read (F.listed folder.old) }
     ensures names { IfOk result (λ files. map (λ f. f.0) files ≡ names.now) }
     ensures content { IfOk result (λ files. IfSome (F.files folder.old) (λ fs. AllHold fs files)) }
     ensures cause { Causes (F.failed folder.old) (F.failed folder.new) result }
 {
     let mut files = Seq::new(alloc);
-    for name in names {
+    'names: for name in names {
         let content = folder.read(alloc, name.as_str(), MOST_BYTES)?;
         files.push((name.copy(alloc)?, content))?;
     }

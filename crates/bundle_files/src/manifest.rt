@@ -88,8 +88,8 @@ fn all_go_on(bytes: &[u8]) -> bool
     bytes.iter().all(|byte| goes_on_template(*byte))
 }
 
-// Whether the bytes are `[a-z_][a-z0-9_]*`.
-fn is_template_name(bytes: &[u8]) -> bool
+/// Whether the bytes are `[a-z_][a-z0-9_]*`.
+pub fn is_template_name(bytes: &[u8]) -> bool
     ensures { result ≡ is_template_name bytes.now }
 {
     match bytes {

@@ -85,13 +85,14 @@ fn hello_is_loaded(rt: HostRuntime) -> Result<(), Fail> {
     ];
     let mut folder = folder(alloc, &files)?;
     let Bundle {
-        compiled,
+        view,
         mount,
         events,
     } = load(alloc, &mut folder)?;
-    assert_eq!(rt; compiled.dynamics(0).len(), 1);
+    assert_eq!(rt; view.template.as_str(), "home");
+    assert_eq!(rt; view.root().dynamics(0).len(), 1);
     assert_eq!(rt;
-        compiled.statics(0).last().map(|text| text.as_str()),
+        view.root().statics(0).last().map(|text| text.as_str()),
         Some("</p>")
     );
     assert_eq!(rt; events.len(), 0);
@@ -139,6 +140,7 @@ fn templates_of_elements(rt: HostRuntime) -> Result<(), Fail> {
         ("<b>{@n}</b><br>", None),
         ("<b class={@n} title='x' {@m}>y</b>", None),
         ("<b class={@streams.m}>y</b>", Some(LoadFault::Refused)),
+        ("<b>{render_slot(@s)}</b>", None),
         ("<.card />", Some(LoadFault::Refused)),
     ] {
         assert_eq!(rt; fault_of_template(alloc, template)?, fault, "of {template}");
@@ -163,10 +165,7 @@ fn templates_of_branches_and_loops(rt: HostRuntime) -> Result<(), Fail> {
             "<i :for={x <- @l}><.live_component module={Card} id={x} /></i>",
             Some(LoadFault::Refused),
         ),
-        (
-            "<b :if={@n}>{render_slot(@s)}</b>",
-            Some(LoadFault::Refused),
-        ),
+        ("<b :if={@n}>{render_slot(@s)}</b>", None),
         ("<i :for={x <- @l}>{@streams}</i>", Some(LoadFault::Refused)),
     ] {
         assert_eq!(rt; fault_of_template(alloc, template)?, fault, "of {template}");
@@ -227,22 +226,152 @@ fn events(rt: HostRuntime) -> Result<(), Fail> {
     Ok(())
 }
 
+const CARD: &str = "<b>{@t}{render_slot(@inner_block)}{render_slot(@row, @t)}</b>";
+
+// A folder with this manifest, the page `home` and one more file.
+fn fault_with(
+    alloc: Global,
+    page: &str,
+    file: &str,
+    content: &str,
+) -> Result<Option<LoadFault>, OutOfMemory> {
+    fault(
+        alloc,
+        &[
+            ("bundle.json", MANIFEST.as_bytes()),
+            ("home.html.heex", page.as_bytes()),
+            (file, content.as_bytes()),
+        ],
+    )
+}
+
+#[test]
+fn templates_that_call(rt: HostRuntime) -> Result<(), Fail> {
+    let alloc = rt.alloc();
+    let refused = Some(LoadFault::Refused);
+    for (page, name, text, fault) in [
+        ("<.card t={@n} />", "card", CARD, None),
+        (
+            "<.card t={@n}>{@n}<:row :let={x} k='1'>{x}</:row></.card>",
+            "card",
+            CARD,
+            None,
+        ),
+        ("<.card t='a' t='b' />", "card", CARD, refused),
+        ("<:row>x</:row>", "card", CARD, refused),
+        ("<.card t={@n} />", "cards", CARD, refused),
+        ("<.card t={@n} />", "card", "<.home />", refused),
+        ("<.card t={@n} />", "card", "<.card />", refused),
+        ("<.card t={@n} />", "card", "<.nope />", refused),
+        ("{@n}", "card", "<.card />", refused),
+        ("{@n}", "card", "<b>", refused),
+        ("{@n}", "_a1", "<b></b>", None),
+        ("{@n}", "1a", "<b></b>", refused),
+        ("{@n}", "Card", "<b></b>", refused),
+        ("{@n}", "a.b", "<b></b>", refused),
+        ("{@n}", "", "<b></b>", refused),
+    ] {
+        let file = format!(in alloc; "{name}.html.heex")?;
+        let found = fault_with(alloc, page, file.as_str(), text)?;
+        assert_eq!(rt; found, fault, "of {page} and {name}: {text}");
+    }
+    Ok(())
+}
+
+#[test]
+fn slots_of_a_call(rt: HostRuntime) -> Result<(), Fail> {
+    let alloc = rt.alloc();
+    let files = [
+        ("bundle.json", MANIFEST.as_bytes()),
+        ("card.html.heex", CARD.as_bytes()),
+        (
+            "home.html.heex",
+            b"<.card t={@n}>{@n}<:row :let={x}>a{x}</:row></.card><.card><:row>b</:row></.card>",
+        ),
+    ];
+    let Bundle {
+        view,
+        mount: _mount,
+        events: _events,
+    } = load(alloc, &mut folder(alloc, &files)?)?;
+    assert_eq!(rt; view.bundle.slots(), 3);
+    for (number, front, dynamics, takes) in [
+        (0, "", 1, false),
+        (1, "a", 1, true),
+        (2, "b", 0, false),
+    ] {
+        let slot = view.bundle.slot(number);
+        assert_eq!(rt;
+            slot.nodes.statics(0).first().map(|text| text.as_str()),
+            Some(front)
+        );
+        assert_eq!(rt; slot.nodes.dynamics(0).len(), dynamics);
+        assert_eq!(rt; slot.pattern.is_some(), takes);
+    }
+    assert_eq!(rt; view.bundle.template("card").dynamics(0).len(), 3);
+    assert_eq!(rt; view.bundle.template("other").dynamics(0).len(), 0);
+    Ok(())
+}
+
 #[test]
 fn files(rt: HostRuntime) -> Result<(), Fail> {
     let alloc = rt.alloc();
     let manifest = ("bundle.json", MANIFEST.as_bytes());
     let template = ("home.html.heex", TEMPLATE.as_bytes());
     let refused = Some(LoadFault::Refused);
+    assert_eq!(rt; fault(alloc, &[])?, refused);
     assert_eq!(rt; fault(alloc, &[template])?, refused);
-    assert_eq!(rt; fault(alloc, &[manifest, template, ("a", b"")])?, refused);
+    assert_eq!(rt; fault(alloc, &[manifest])?, refused);
+    assert_eq!(rt;
+        fault(alloc, &[manifest, ("other.html.heex", TEMPLATE.as_bytes())])?,
+        refused
+    );
     assert_eq!(rt;
         fault(alloc, &[manifest, ("home.html.heex", b"<p>{@n}\xff</p>")])?,
         refused
     );
     assert_eq!(rt;
-        fault(alloc, &[manifest, ("home.html.heex", b"<p>{@n</p>")])?,
+        fault(alloc, &[manifest, template, ("card.html.heex", b"\xff")])?,
         refused
     );
+    for ignored in [
+        "a",
+        "home.html",
+        "home.heex",
+        "bundle.json.html",
+        "home.html.heex~",
+    ] {
+        assert_eq!(rt;
+            fault(alloc, &[manifest, template, (ignored, b"\xff")])?,
+            None
+        );
+    }
+    Ok(())
+}
+
+// A bundle with so many further templates, and with as many ignored files.
+fn fault_of_many(alloc: Global, count: usize) -> Result<Option<LoadFault>, OutOfMemory> {
+    let mut held = ByKey::new(alloc);
+    for (name, content) in [("bundle.json", MANIFEST), ("home.html.heex", TEMPLATE)] {
+        held.insert(
+            Text::copy_of(alloc, name)?,
+            Bytes::copy_of(alloc, content.as_bytes())?,
+        )?;
+    }
+    for number in 0..count {
+        let template = format!(in alloc; "t{number}.html.heex")?;
+        let ignored = format!(in alloc; "t{number}.html")?;
+        held.insert(Text::copy_of(alloc, template.as_str())?, Bytes::new(alloc))?;
+        held.insert(Text::copy_of(alloc, ignored.as_str())?, Bytes::new(alloc))?;
+    }
+    Ok(load(alloc, &mut HeldFolder::new(held)).err())
+}
+
+#[test]
+fn many_files(rt: HostRuntime) -> Result<(), Fail> {
+    let alloc = rt.alloc();
+    assert_eq!(rt; fault_of_many(alloc, 254)?, None);
+    assert_eq!(rt; fault_of_many(alloc, 255)?, Some(LoadFault::Refused));
     Ok(())
 }
 
@@ -264,6 +393,18 @@ fn sizes(rt: HostRuntime) -> Result<(), Fail> {
         fault(alloc, &[manifest, ("home.html.heex", large.as_slice())])?,
         Some(LoadFault::Refused)
     );
+    let template = ("home.html.heex", TEMPLATE.as_bytes());
+    assert_eq!(rt;
+        fault(
+            alloc,
+            &[manifest, template, ("card.html.heex", large.as_slice())]
+        )?,
+        Some(LoadFault::Refused)
+    );
+    assert_eq!(rt;
+        fault(alloc, &[manifest, template, ("card", large.as_slice())])?,
+        None
+    );
     Ok(())
 }
 
@@ -272,9 +413,10 @@ fn failing_calls(rt: HostRuntime) -> Result<(), Fail> {
     let alloc = rt.alloc();
     let files = [
         ("bundle.json", MANIFEST.as_bytes()),
+        ("card.html.heex", CARD.as_bytes()),
         ("home.html.heex", TEMPLATE.as_bytes()),
     ];
-    for call in 1..4u64 {
+    for call in 1..5u64 {
         let mut failing = Seq::new(alloc);
         failing.push(call)?;
         let mut folder = Failing::new(folder(alloc, &files)?, failing, 0);

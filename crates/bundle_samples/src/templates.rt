@@ -1,6 +1,6 @@
 //! Templates, with what is read in them.
 
-use slot_compile::{Compiled, Dynamic};
+use slot_compile::{Compiled, Dynamic, compile};
 use std::alloc::Global;
 use std::test::Fail;
 use template_reader::read_template;
@@ -27,6 +27,11 @@ fn mark(dynamic: &Dynamic) -> &'static str {
             reads: _,
             body: _,
         } => "|+",
+        Dynamic::Call { form: _, reads: _ } => "|.",
+        Dynamic::RenderSlot {
+            slot: _,
+            argument: _,
+        } => "|@",
     }
 }
 
@@ -43,9 +48,12 @@ fn show_body(compiled: &Compiled, number: usize, line: &mut String) -> Result<()
 }
 
 // The bodies of a template in order of their numbers.
-fn shown(alloc: Global, read: Option<Compiled>) -> Result<String, OutOfMemory> {
-    let Some(compiled) = read else {
+fn shown(alloc: Global, text: &str) -> Result<String, OutOfMemory> {
+    let Some(nodes) = read_template(alloc, text)? else {
         return Ok(String::from_str(alloc, "none")?);
+    };
+    let Some(compiled) = compile(alloc, nodes)? else {
+        return Ok(String::from_str(alloc, "not compiled")?);
     };
     let mut line = String::new(alloc);
     for number in 0..compiled.count() {
@@ -78,10 +86,14 @@ fn templates(rt: HostRuntime) -> Result<(), Fail> {
         ("{ }", "none"),
         ("{@a", "none"),
         ("<b>", "none"),
-        ("<.card />", "none"),
+        ("<.card a={@a}>{@b}<:row>c</:row></.card>d", "|.d"),
+        (
+            "<b>{render_slot(@s)}{render_slot(@s, @a)}</b>",
+            "<b>|@|@</b>",
+        ),
         ("x<p>{@a}</p> ", "x<p>|</p> "),
     ] {
-        let found = shown(alloc, read_template(alloc, text)?)?;
+        let found = shown(alloc, text)?;
         assert_eq!(rt; found.as_str(), expected, "of {text}");
     }
     Ok(())
@@ -116,8 +128,9 @@ fn bodies(rt: HostRuntime) -> Result<(), Fail> {
             "|+ ~ |?| ~ <b>|</b>",
         ),
         ("<%= for streams <- @l do %>{streams}<% end %>", "|+ ~ |"),
+        ("<%= if @a do %><.card>{@b}</.card><% end %>", "|? ~ |."),
     ] {
-        let found = shown(alloc, read_template(alloc, text)?)?;
+        let found = shown(alloc, text)?;
         assert_eq!(rt; found.as_str(), expected, "of {text}");
     }
     Ok(())
@@ -127,12 +140,12 @@ fn bodies(rt: HostRuntime) -> Result<(), Fail> {
 fn not_yet(rt: HostRuntime) -> Result<(), Fail> {
     let alloc = rt.alloc();
     for text in [
-        "<%= if @a do %><.card /><% end %>",
-        "<%= if @a do %>b<% else %>{render_slot(@s)}<% end %>",
-        "<%= case @a do %><% 1 -> %><.card>x</.card><% end %>",
         "<i :for={x <- @l}><.live_component module={Card} id={x} /></i>",
         "<.live_component module={Card} id=\"a\" />",
-        "{render_slot(@s)}",
+        "<.card><.live_component module={Card} id=\"a\" /></.card>",
+        "<.card><:row>{@streams}</:row></.card>",
+        "<.card a={@streams} />",
+        "{render_slot(@streams)}",
         "<li :for={{i, x} <- @streams.m} id={i}>{x}</li>",
         "<%= for x <- @streams.m do %>{x}<% end %>",
         "<%= for x <- @l do %>{@streams}<% end %>",
@@ -141,7 +154,7 @@ fn not_yet(rt: HostRuntime) -> Result<(), Fail> {
         "<%= if @streams do %>x<% end %>",
         "<p>{@a}</p><b :if={@a}><i :for={x <- @l} {@streams} /></b>",
     ] {
-        let found = shown(alloc, read_template(alloc, text)?)?;
+        let found = shown(alloc, text)?;
         assert_eq!(rt; found.as_str(), "none", "of {text}");
     }
     Ok(())

@@ -1,5 +1,5 @@
--- Templates that the program takes so far: texts, elements, interpolations, attributes, spreads, conditions, cases and
--- loops, in which nothing reads the streams.
+-- Templates that the program takes so far: those in which nothing reads the streams, and no place is a live call or a
+-- stream.
 use Rattle.std.specs.Prelude.{◌≡◌, ◌↔◌, ℕ, List, length, codes, Bool, true, not, ◌&&◌, nat_lt, Option, Some, None, Result, Ok, Err, if◌then◌else◌}
 use Rattle.ast_core.specs.Syntax.{Nodes}
 use Rattle.ast_core.specs.Free.{free_nodes, one_of}

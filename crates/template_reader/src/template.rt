@@ -3,12 +3,11 @@ ghost use Rattle.std.specs.Prelude.{◌≡◌, IfOk, codes, option_map};
 ghost use Rattle.ast_core.specs.Free.{free_node, one_of};
 ghost use Rattle.ast_core.specs.NodeView.{node_view, nodes_view};
 ghost use Rattle.ast_core.specs.Reads.{assigns_in};
-ghost use Rattle.slot_compile.specs.Template.{syntax_of};
 ghost use Rattle.template_reader.specs.Reading.{reads_streams, taken, template_of};
 
 use ast_core::{Node, Nodes, reads};
 use heex_reader::TemplateFault;
-use slot_compile::{Compiled, compile};
+use slot_compile::nodes_are_plain;
 use std::alloc::Global;
 use text_core::{OutOfMemory, Text};
 
@@ -47,20 +46,22 @@ fn reads_streams(alloc: Global, nodes: &Nodes) -> Result<bool, OutOfMemory>
 }
 
 // A template, if the program takes it.
-fn taken(alloc: Global, nodes: Nodes) -> Result<Option<Compiled>, OutOfMemory>
-    ensures { IfOk result (λ c. option_map syntax_of c ≡ taken (nodes_view nodes)) }
+fn taken(alloc: Global, nodes: Nodes) -> Result<Option<Nodes>, OutOfMemory>
+    ensures { IfOk result (λ ns. option_map nodes_view ns ≡ taken (nodes_view nodes)) }
 {
     if reads_streams(alloc, &nodes)? {
         return Ok(None);
     }
-    compile(alloc, nodes)
+    if !nodes_are_plain(&nodes) {
+        return Ok(None);
+    }
+    Ok(Some(nodes))
 }
 
-/// Reads a template of texts, elements, interpolations, attributes, spreads, conditions, cases and loops, in which
-/// nothing reads the streams. None where the text is refused, has 4,294,967,295 bytes or more, or spells a template of
-/// other nodes.
-pub fn read_template(alloc: Global, text: &str) -> Result<Option<Compiled>, OutOfMemory>
-    ensures { IfOk result (λ c. option_map syntax_of c ≡ template_of text.now) }
+/// Reads a template in which nothing reads the streams and no place is a live call or a stream. None where the text is
+/// refused, has 4,294,967,295 bytes or more, or spells another template.
+pub fn read_template(alloc: Global, text: &str) -> Result<Option<Nodes>, OutOfMemory>
+    ensures { IfOk result (λ ns. option_map nodes_view ns ≡ template_of text.now) }
 {
     if text.len() >= TOO_LONG {
         return Ok(None);
