@@ -2,7 +2,7 @@
 -- nothing; `before` and `after` are what the sink had taken before and after the call.
 use Rattle.std.specs.Prelude.{◌≡◌, ◌⊎◌, ℕ, List, [], ◌∷◌, ◌++◌, codes, decimal, Option, Some, None, IfSome}
 use Rattle.bundle_files.specs.declared.bundle.Bundle.{Bundle}
-use Rattle.bundle_files.specs.Bundle.{bundle_of, bundle_view}
+use Rattle.bundle_files.specs.Bundle.{IsBundle, IsNoBundle, bundle_view}
 use Rattle.live_page.specs.declared.app.App.{App}
 use Rattle.view_script.specs.declared.views.ScriptViews.{ScriptViews}
 use Rattle.view_script.specs.Views.{meaning_of_script}
@@ -30,7 +30,7 @@ Says before after sink_rose line = AddsAll before after line ⊎ (sink_rose × A
 
 -- the folder's files are what that bundle stands for, where it tells them
 abbrev pub IsBundleOf : Option (List (List ℕ × List ℕ)) → Bundle → Type 0
-IsBundleOf files bundle = IfSome files (λ fs. bundle_of fs ≡ Some (bundle_view bundle))
+IsBundleOf files bundle = IfSome files (λ fs. IsBundle fs (bundle_view bundle))
 
 -- how a run of a script over an app ends
 abbrev pub RunEnds : App ScriptViews → List Line → Option (List ℕ) → Option (List ℕ) → Type 0 → Status → Type 0
@@ -67,5 +67,5 @@ FolderEnds files text before after folder_rose source_rose sink_rose status.BadS
 FolderEnds files text before after folder_rose source_rose sink_rose status.WriteFault = Loaded files text before after source_rose sink_rose status.WriteFault
 FolderEnds files text before after folder_rose source_rose sink_rose status.OutOfMemory = (after ≡ before) ⊎ Loaded files text before after source_rose sink_rose status.OutOfMemory
 FolderEnds files text before after folder_rose source_rose sink_rose status.ReadFault = (after ≡ before) × (folder_rose ⊎ Loaded files text before after source_rose sink_rose status.ReadFault)
-FolderEnds files text before after folder_rose source_rose sink_rose status.Refused = IfSome files (λ fs. bundle_of fs ≡ None) × Says before after sink_rose refused_line
+FolderEnds files text before after folder_rose source_rose sink_rose status.Refused = IfSome files IsNoBundle × Says before after sink_rose refused_line
 FolderEnds files text before after folder_rose source_rose sink_rose status.Usage = ⊥

@@ -105,8 +105,8 @@ fn is_replay(words: &[&str]) -> bool
 }
 
 /// Does what the words say: `replay DIR` runs the script over the bundle of the folder, and writes
-/// what the script prints to the sink. The files are all read before the folder is judged, and the
-/// folder is judged before the script is read.
+/// what the script prints to the sink. The files of the bundle are all read before one is judged, or
+/// none where they are more than 256, and the folder is judged before the script is read.
 ///
 /// `words` are those behind the program's name; DIR names what the caller hands in as `folder`.
 /// Where the sink fails while the line of `Usage`, `Refused` or `BadScript` is written, the status

@@ -5,6 +5,8 @@ mod adapters;
 mod app;
 #[cfg(test)]
 mod branch_tests;
+#[cfg(test)]
+mod call_tests;
 mod command;
 #[cfg(test)]
 mod event_tests;
