@@ -39,7 +39,7 @@ use Rattle.diff_render.specs.declared.print.Print.{Print}
 use Rattle.diff_render.specs.declared.print.Print.TheVariants as kept
 use Rattle.diff_render.specs.declared.print.SlotPrint.{SlotPrint}
 use Rattle.diff_render.proofs.Anew.{Lean, some_same}
-use Rattle.diff_render.proofs.Calls.{Shown, mapped, passed_met, shown_met, slots_remembered}
+use Rattle.diff_render.proofs.CallsWhole.{Shown, mapped, passed_met, shown_met, slots_remembered}
 use Rattle.diff_render.proofs.Passing.{fault_passes}
 use Rattle.diff_render.proofs.Slots.{SlotProgress, begun_slots, ended_slots, further_slot, raised_slot, slots_met}
 use Rattle.diff_render.proofs.Wholes.{call_print, slots_more, slots_print}

@@ -1,7 +1,7 @@
 pub mod Anew
 pub mod Before
 pub mod Branches
-pub mod Calls
+pub mod CallsWhole
 pub mod CallsAgain
 pub mod Changed
 pub mod Deciding

@@ -18,7 +18,7 @@ use Rattle.diff_render.specs.Taken.{IsTaken, is_loop, shown_slot, taken}
 use Rattle.diff_render.specs.Tracked.{scope_now, scope_then}
 use Rattle.diff_render.specs.declared.scope.Tracking.{Tracking}
 use Rattle.diff_render.proofs.Anew.{apart_other, choice_fault, differs, differs_not, kept_fault, kept_told, left_fault, left_further, left_start, left_told, no_print_left, none_again, quiet_told, some_same, some_taken, text_again}
-use Rattle.diff_render.proofs.Calls.{mapped}
+use Rattle.diff_render.proofs.CallsWhole.{mapped}
 use Rattle.diff_render.proofs.Dynamics.{branches, call_is, for_is, slot_is}
 use Rattle.diff_render.proofs.SlotsAgain.{SlotsAhead, ahead_begun, slot_further}
 use Rattle.diff_render.proofs.Branches.{apart_branch, stays}

@@ -20,7 +20,7 @@ use Rattle.diff_render.specs.Taken.{AreSlots, IsTaken, looped, shown_slot, slott
 use Rattle.diff_render.specs.Values.{rows_in, rows_seen}
 use Rattle.diff_render.specs.declared.print.Print.TheVariants as kept
 use Rattle.diff_render.proofs.Places.{Told, branch_told, choice_fault, flat_told, going_begun, none_taken, places_fault, places_more, places_told, none_left, rows_begun, rows_done, rows_fault, rows_more_fault, rows_more_told, rows_told, scopes_fault}
-use Rattle.diff_render.proofs.Calls.{SlotsGoing, call_told, callee_fault, passed_fault, scopes_raise, slots_begun, slots_done, slots_fault, slots_further, slots_stop, slots_told}
+use Rattle.diff_render.proofs.CallsWhole.{SlotsGoing, call_told, callee_fault, passed_fault, scopes_raise, slots_begun, slots_done, slots_fault, slots_further, slots_stop, slots_told}
 use Rattle.diff_render.proofs.Dynamics.{branches, call_is, slot_is}
 use Rattle.diff_render.proofs.Kept.{below}
 use Rattle.diff_render.proofs.Passing.{answers_of}

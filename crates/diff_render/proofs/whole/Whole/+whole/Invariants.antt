@@ -12,7 +12,7 @@ use Rattle.diff_render.specs.Prints.{rows_view}
 use Rattle.diff_render.specs.Scope.{AreScopes, scope_in}
 use Rattle.diff_render.specs.Taken.{shown_slot}
 use Rattle.diff_render.specs.Values.{rows_in, rows_seen}
-use Rattle.diff_render.proofs.Calls.{SlotsGoing}
+use Rattle.diff_render.proofs.CallsWhole.{SlotsGoing}
 use Rattle.diff_render.proofs.Places.{Going}
 use Rattle.diff_render.proofs.Progress.{RowProgress}
 use Rattle.diff_render.proofs.whole.Whole.+whole.Given as goal
