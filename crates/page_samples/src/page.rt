@@ -191,7 +191,8 @@ fn a_page_that_calls_a_template_is_joined(rt: HostRuntime) -> Result<(), Fail> {
                 "{\"0\":{\"0\":{\"0\":{\"0\":\"hello\",\"s\":[\"\",\"\"]},\"s\":[\"\",\"\"]},\"s\":[\"<b>\",\"</b>\"]},\"s\":[\"\",\"\"]}"
             );
             let mut page = page;
-            assert_eq!(rt; told(alloc, &app, &mut page, &mut rest)?.as_str(), "{}");
+            let diff = told(alloc, &app, &mut page, &mut rest)?;
+            assert_eq!(rt; diff.as_str(), "{}");
             return Ok(());
         }
     }
