@@ -1,17 +1,19 @@
--- The files that were read are a bundle where those of the folder are.
-use Rattle.std.proofs.Common.{◌≡◌, ◌≤◌, ◌<◌, ◌+◌, ◌==◌, ◌++◌, ℕ, List, [], ◌∷◌, map, take, length, codes, Bool, true, false, cond, get_or, Option, Some, None, option_map, refl, arith, ap, sym, subst, ◌∙◌, nat_le}
-use Rattle.std.specs.Option.{option_and_then, IfSome, is_some}
+-- What was read of the files of a folder.
+use Rattle.std.proofs.Common.{◌≡◌, ◌<◌, ◌+◌, ◌++◌, ℕ, zero, suc, List, [], ◌∷◌, map, filter, take, length, Bool, true, false, cond, get_or, Option, Some, None, option_map, refl, arith, ap, sym, subst, ◌∙◌}
+use Rattle.std.specs.Option.{IfSome, is_some}
+use Rattle.std.specs.List.{IsDistinct, AllByRecursion, Contains}
 use Rattle.std.specs.Str.{bytes_eq}
 use Rattle.std.proofs.lemmas.Slice.Eq.{bytes_eq-Decides}
-use Rattle.std.proofs.lemmas.Bool.{lt-leb, leb-true, leb-false}
-use Rattle.std.proofs.lemmas.List.{length-take, take_all, take_more, length-map}
+use Rattle.std.proofs.lemmas.List.{take_more}
 use Rattle.text_core.specs.Outside.{content_of, Holds}
+use Rattle.bundle_files.specs.Files.{File, is_read}
 use Rattle.bundle_files.specs.Held.{AllHold}
-use Rattle.bundle_files.specs.Bundle.{Bundle, small_file, template_in, bundle_of, bundle_with}
-use Rattle.ast_core.specs.Syntax.{Nodes}
-use Rattle.bundle_files.specs.Manifest.{Manifest, manifest_in}
+use Rattle.bundle_files.proofs.Named.{itself}
 
-pub held_snoc : (fs files : List (List ℕ × List ℕ)) (f : List ℕ × List ℕ) → AllHold fs files → Holds f.0 1048576 f.1 fs → AllHold fs (files ++ f ∷ [])
+never : (v : Bool) → v ≡ true → v ≡ false → ⊥
+never v e f = cc
+
+held_snoc : (fs files : List (List ℕ × List ℕ)) (f : List ℕ × List ℕ) → AllHold fs files → Holds f.0 1048576 f.1 fs → AllHold fs (files ++ f ∷ [])
 held_snoc fs [] f a h = (h, tt)
 held_snoc fs (g ∷ files) f a h = (a.0, held_snoc fs files f a.1 h)
 
@@ -45,53 +47,63 @@ same_if most (Some x) p f e = sym (f x refl)
 same_if most None None f e = refl
 same_if most None (Some y) f e = cc
 
-contents : (name : List ℕ) (fs files : List (List ℕ × List ℕ)) → AllHold fs files → map (λ f. f.0) files ≡ map (λ f. f.0) fs → content_of name files ≡ option_map (take (1048576 + 1)) (content_of name fs)
-contents name fs files a e = same_if (1048576 + 1) (content_of name files) (content_of name fs) (λ x s. found name fs files x a s) (is_there name files ∙ (ap (has name) e ∙ sym (is_there name fs)))
+-- names that are read are among the names that are read
+has_read : (name : List ℕ) (ns : List (List ℕ)) → is_read name ≡ true → has name (filter is_read ns) ≡ has name ns
+has_read name [] h = refl
+has_read name (n ∷ ns) h = by (is_read n) refl (bytes_eq name n) refl (has_read name ns h)
+  where
+    by : (r : Bool) → is_read n ≡ r → (b : Bool) → bytes_eq name n ≡ b → has name (filter is_read ns) ≡ has name ns → has name (cond r (n ∷ filter is_read ns) (filter is_read ns)) ≡ cond (bytes_eq name n) true (has name ns)
+    by true e b f rest = ap (λ t. cond (bytes_eq name n) true t) rest
+    by false e true f rest = absurd (never (is_read n) (ap is_read (sym ((bytes_eq-Decides name n).0 f)) ∙ h) e)
+    by false e false f rest = rest ∙ ap (λ t. cond t true (has name ns)) (sym f)
 
-abbrev small : ℕ → Option (List ℕ) → Option (List ℕ)
-small most o = option_and_then (λ bytes. cond (nat_le (length bytes) most) (Some bytes) None) o
+pub contents : (name : List ℕ) (fs files : List File) → is_read name ≡ true → AllHold fs files → map (λ f. f.0) files ≡ filter is_read (map (λ f. f.0) fs) → content_of name files ≡ option_map (take (1048576 + 1)) (content_of name fs)
+contents name fs files h a e = same_if (1048576 + 1) (content_of name files) (content_of name fs) (λ x s. found name fs files x a s) (is_there name files ∙ (ap (has name) e ∙ (has_read name (map (λ f. f.0) fs) h ∙ sym (is_there name fs))))
 
-cut_if : (b : Bool) (most : ℕ) (c : List ℕ) → nat_le (length c) most ≡ b → cond (nat_le (length (take (most + 1) c)) most) (Some (take (most + 1) c)) None ≡ cond b (Some c) None
-cut_if true most c e =
-    let n : length c ≤ most = leb-true (length c) most e in
-    let t : take (most + 1) c ≡ c = take_all (most + 1) c (omega (arith, n)) in
-    rw (t, e)
-cut_if false most c e =
-    let n : most < length c = leb-false (length c) most e in
-    let t : nat_le (length (take (most + 1) c)) most ≡ false = lt-leb _ most (omega (arith, length-take (most + 1) c, n)) in
-    rw t
+-- names that are read are listed
+contained_if : {X : Type 0} (b : Bool) (p : X → Bool) (y : X) (ys : List X) (i : ℕ) (x : X) → ((j : ℕ) → j < length (filter p ys) → x ≡ get_or (filter p ys) j x → Contains ys x)
+    → i < length (cond b (y ∷ filter p ys) (filter p ys)) → x ≡ get_or (cond b (y ∷ filter p ys) (filter p ys)) i x → Contains (y ∷ ys) x
+contained_if true p y ys zero x rest h e = (0, omega arith, sym e)
+contained_if true p y ys (suc i) x rest h e = let r = rest i (omega (arith, h)) e in (suc r.0, omega (arith, r.1), r.2)
+contained_if false p y ys i x rest h e = let r = rest i h e in (suc r.0, omega (arith, r.1), r.2)
 
--- a file that was cut behind the limit is too large, as the whole file is
-cut_small : (most : ℕ) (o : Option (List ℕ)) → small most (option_map (take (most + 1)) o) ≡ small most o
-cut_small most None = refl
-cut_small most (Some c) = cut_if (nat_le (length c) most) most c refl
+pub contained : {X : Type 0} (p : X → Bool) (xs : List X) (i : ℕ) (x : X) → i < length (filter p xs) → x ≡ get_or (filter p xs) i x → Contains xs x
+contained p [] i x h e = absurd (omega arith)
+contained p (y ∷ ys) i x h e = contained_if (p y) p y ys i x (λ j. contained p ys j x) h e
 
-smalls : (name : List ℕ) (fs files : List (List ℕ × List ℕ)) → AllHold fs files → map (λ f. f.0) files ≡ map (λ f. f.0) fs → small_file name files ≡ small_file name fs
-smalls name fs files a e = ap (small 1048576) (contents name fs files a e) ∙ cut_small 1048576 (content_of name fs)
+-- names that are read are distinct where the listed are
+all_read : (p : List ℕ → Bool) (q : List ℕ → Type 0) (ns : List (List ℕ)) → AllByRecursion q ns → AllByRecursion q (filter p ns)
+all_read p q [] h = tt
+all_read p q (n ∷ ns) h = by (p n) (all_read p q ns h.1)
+  where
+    by : (b : Bool) → AllByRecursion q (filter p ns) → AllByRecursion q (cond b (n ∷ filter p ns) (filter p ns))
+    by true rest = (h.0, rest)
+    by false rest = rest
 
-and_then_same : {X Y : Type 0} (f g : X → Option Y) (o p : Option X) → ((x : X) → f x ≡ g x) → o ≡ p → option_and_then f o ≡ option_and_then g p
-and_then_same f g None p h e = rw (sym e)
-and_then_same f g (Some x) p h e = rw (sym e) (h x)
+pub distinct_read : (p : List ℕ → Bool) (ns : List (List ℕ)) → IsDistinct bytes_eq ns → IsDistinct bytes_eq (filter p ns)
+unfolding IsDistinct
+distinct_read p [] h = tt
+distinct_read p (n ∷ ns) h = by (p n) (all_read p (λ m. bytes_eq n m ≡ false) ns h.0) (distinct_read p ns h.1)
+  where
+    by : (b : Bool) → AllByRecursion (λ m. bytes_eq n m ≡ false) (filter p ns) → IsDistinct bytes_eq (filter p ns) → IsDistinct bytes_eq (cond b (n ∷ filter p ns) (filter p ns))
+    by true first rest = (first, rest)
+    by false first rest = rest
 
-lengths : (fs files : List (List ℕ × List ℕ)) → map (λ f. f.0) files ≡ map (λ f. f.0) fs → length files ≡ length fs
-lengths fs files e = sym (length-map files (λ f. f.0)) ∙ (ap length e ∙ length-map fs (λ f. f.0))
+turned : (a b : List ℕ) (v : Bool) → bytes_eq a b ≡ v → bytes_eq b a ≡ false → v ≡ false
+turned a b true is no = absurd (never (bytes_eq b a) ((bytes_eq-Decides b a).1 (sym ((bytes_eq-Decides a b).0 is))) no)
+turned a b false is no = refl
 
-cond_same : {X : Type 0} (b c : Bool) (x y z : X) → b ≡ c → x ≡ y → cond b x z ≡ cond c y z
-cond_same b c x y z e h = rw (e, h)
+apart : (name : List ℕ) (gs : List File) (j : ℕ) (f : File) → AllByRecursion (λ m. bytes_eq name m ≡ false) (map (λ x. x.0) gs) → j < length gs → f ≡ get_or gs j f → bytes_eq f.0 name ≡ false
+apart name [] j f all k is = absurd (omega arith)
+apart name (x ∷ gs) zero f all k is = turned f.0 name (bytes_eq f.0 name) refl (ap (λ (y : File). bytes_eq name y.0) is ∙ all.0)
+apart name (x ∷ gs) (suc j) f all k is = apart name gs j f all.1 (omega (arith, k)) is
 
-abbrev with_template : Manifest → Nodes → Bundle
-with_template m t = record { template = t; mount = m.mount; events = m.events }
-
-same : (fs files : List (List ℕ × List ℕ)) → AllHold fs files → map (λ f. f.0) files ≡ map (λ f. f.0) fs → bundle_of files ≡ bundle_of fs
-same fs files a e = cond_same (length files == 2) (length fs == 2) _ _ None (ap (λ n. n == 2) (lengths fs files e))
-    (and_then_same (bundle_with files) (bundle_with fs) _ _
-    (λ m. ap (λ (o : Option (List ℕ)). option_map (with_template m) (option_and_then template_in o)) (smalls (m.template ++ codes ".html.heex") fs files a e))
-    (ap (option_and_then manifest_in) (smalls (codes "bundle.json") fs files a e)))
-
--- what was judged of the files that were read holds of the folder's
-pub told : (o : Option (List (List ℕ × List ℕ))) (names : List (List ℕ)) (files : List (List ℕ × List ℕ)) (r : Option Bundle) → IfSome o (λ fs. names ≡ map (λ f. f.0) fs) → map (λ f. f.0) files ≡ names → IfSome o (λ fs. AllHold fs files) → r ≡ bundle_of files → IfSome o (λ fs. bundle_of fs ≡ r)
-told None names files r n e a h = tt
-told (Some fs) names files r n e a h = sym (h ∙ same fs files a (e ∙ n))
+-- of files with distinct names each is found by its own
+pub found_at : (fs : List File) (i : ℕ) (f : File) → IsDistinct bytes_eq (map (λ g. g.0) fs) → i < length fs → f ≡ get_or fs i f → content_of f.0 fs ≡ Some f.1
+unfolding IsDistinct
+found_at [] i f d h e = absurd (omega arith)
+found_at (g ∷ fs) zero f d h e = ap (λ (x : File). content_of f.0 (x ∷ fs)) (sym e) ∙ ap (λ v. cond v (Some f.1) (content_of f.0 fs)) (itself f.0)
+found_at (g ∷ fs) (suc i) f d h e = ap (λ v. cond v (Some g.1) (content_of f.0 fs)) (apart g.0 fs i f d.0 (omega (arith, h)) e) ∙ found_at fs i f d.1 (omega (arith, h)) e
 
 if_held : (o p : Option (List (List ℕ × List ℕ))) (files : List (List ℕ × List ℕ)) (f : List ℕ × List ℕ) → p ≡ o → IfSome o (λ fs. AllHold fs files) → IfSome p (λ fs. Holds f.0 1048576 f.1 fs) → IfSome o (λ fs. AllHold fs (files ++ f ∷ []))
 if_held None p files f e a h = tt

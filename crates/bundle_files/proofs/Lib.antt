@@ -1,6 +1,14 @@
 pub mod Counts
 pub mod Manifests
-pub mod Held
 pub mod Texts
 pub mod Listed
 pub mod Items
+pub mod Endings
+pub mod Named
+pub mod Spelled
+pub mod Held
+pub mod Told
+pub mod Added
+pub mod Numbering
+pub mod Lawful
+pub mod Bundles

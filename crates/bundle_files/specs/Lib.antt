@@ -7,5 +7,5 @@ pub mod ManifestView
 pub mod Held
 pub mod Answers
 pub mod Files
-pub mod Listed
+pub mod TemplatesView
 pub mod Bundle

@@ -44,7 +44,7 @@ fn load_fault(fault: LinkFault) -> LoadFault
 }
 
 // Templates, linked.
-fn linked(alloc: Global, templates: Templates, modules: Modules) -> Result<Linked, LoadFault>
+fn link_all(alloc: Global, templates: Templates, modules: Modules) -> Result<Linked, LoadFault>
     requires ascending { IsTrue (ascend (map template_name templates)) }
     requires plain { modules.components ≡ [] }
     ensures { Judged result (IsUnlawful templates) (λ l. IsLawful (known_in templates []) templates × (linked_view l ≡ linked_of templates [])) }
@@ -59,7 +59,7 @@ fn linked(alloc: Global, templates: Templates, modules: Modules) -> Result<Linke
 }
 
 // A linked bundle, compiled.
-fn compiled(alloc: Global, linked: Linked) -> Result<CompiledBundle, OutOfMemory>
+fn compile_all(alloc: Global, linked: Linked) -> Result<CompiledBundle, OutOfMemory>
     requires numbered { AreNumbered 0 (map body_view linked.bodies) }
     requires plain { bundle_compiled (linked_view linked) ≡ Some (linked_view linked) }
     ensures { IfOk result (λ b. linked_in b ≡ linked_view linked) }
@@ -82,6 +82,6 @@ pub fn compile_templates(
     ensures { Judged result (IsUnlawful templates) (IsCompiledOf templates) }
 {
     let modules = modules_of(alloc, view)?;
-    let linked = linked(alloc, templates, modules)?;
-    Ok(compiled(alloc, linked)?)
+    let linked = link_all(alloc, templates, modules)?;
+    Ok(compile_all(alloc, linked)?)
 }

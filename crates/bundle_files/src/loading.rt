@@ -6,7 +6,7 @@ ghost use Rattle.text_core.specs.Outside.{Rose};
 ghost use Rattle.bundle_compile.specs.Parts.{templates_plain};
 ghost use Rattle.bundle_files.specs.Answers.{Judged};
 ghost use Rattle.bundle_files.specs.Bundle.{IsBundle, IsBundleOf, IsNoBundle, IsNoBundleOf, Says, SaysNone, bundle_view, manifest_at};
-ghost use Rattle.bundle_files.specs.Listed.{listed, templates_view};
+ghost use Rattle.bundle_files.specs.TemplatesView.{listed, templates_view};
 ghost use Rattle.bundle_files.specs.ManifestView.{manifest_view};
 
 use crate::files::{read_files, small_file};

@@ -5,7 +5,7 @@ ghost use Rattle.std.specs.Str.{bytes_eq};
 ghost use Rattle.ast_core.specs.NodeView.{nodes_view};
 ghost use Rattle.bundle_files.specs.Answers.{Judged};
 ghost use Rattle.bundle_files.specs.Files.{AreNoTemplates, AreTemplates, File, IsBadFile, template_from, template_in};
-ghost use Rattle.bundle_files.specs.Listed.{listed, templates_view};
+ghost use Rattle.bundle_files.specs.TemplatesView.{listed, templates_view};
 
 use crate::LoadFault;
 use crate::files::MOST_BYTES;

@@ -1,6 +1,7 @@
 -- The bundle of files is what they spell.
-use Rattle.std.proofs.Common.{◌≡◌, ◌≤◌, ◌<◌, ◌==◌, ◌&&◌, ◌++◌, ◌⊎◌, inl, inr, ℕ, suc, List, [], ◌∷◌, length, codes, Bool, true, false, cond, Option, Some, None, option_map, option_and_then, refl, arith, ap, sym, subst, ◌∙◌, nat_le, get_or}
-use Rattle.std.specs.Str.{bytes_eq, is_utf8}
+use Rattle.std.proofs.Common.{◌≡◌, ◌≤◌, ◌<◌, ◌==◌, ◌&&◌, ◌++◌, ◌⊎◌, inl, inr, ℕ, suc, List, [], ◌∷◌, length, map, codes, Bool, true, false, cond, Option, Some, None, option_map, option_and_then, refl, arith, ap, sym, subst, ◌∙◌, nat_le, get_or}
+use Rattle.std.specs.Option.{MatchOption}
+use Rattle.std.specs.Str.{IsUtf8, bytes_eq, is_utf8}
 use Rattle.std.proofs.lemmas.Str.{IsUtf8-from_is_utf8, is_utf8-from_IsUtf8}
 use Rattle.std.proofs.lemmas.Slice.Eq.{bytes_eq-Decides}
 use Rattle.std.proofs.lemmas.Bool.Decides.{Decides-eqb}
@@ -11,17 +12,19 @@ use Rattle.serde_json.specs.Find.{get, as_str, as_object, as_number, as_u64}
 use Rattle.text_core.specs.declared.by_key.KeyValue.{KeyValue}
 use Rattle.text_core.specs.Keyed.{entry}
 use Rattle.text_core.specs.Outside.{content_of}
+use Rattle.ast_core.specs.LinkedView.{template_view}
 use Rattle.ast_core.specs.Syntax.{Expr, Nodes}
 use Rattle.template_reader.specs.Formula.{formula_of}
-use Rattle.template_reader.specs.Reading.{template_of}
+use Rattle.template_reader.specs.Reading.{SpellsTemplate, template_of}
 use Rattle.template_reader.proofs.Formulas.{formulas_are_spelled}
 use Rattle.template_reader.proofs.Readings.{templates_are_spelled}
 use Rattle.bundle_files.specs.Steps.{Step, assign_step, when_step, Steps, no_steps, step}
 use Rattle.bundle_files.specs.StepReading.{is_text, assign_from, when_from, both_steps, step_in, steps_at, steps_in}
 use Rattle.bundle_files.specs.Manifest as manifests
 use Rattle.bundle_files.specs.Manifest.{Manifest, count_of, is_template_name, text_of, is_one, only_item, view_in, events_in, events_at, view_members, manifest_from, handlers_in, entry_in, manifest_of, manifest_in}
-use Rattle.bundle_files.specs.Bundle.{Bundle, small_file, template_in, bundle_with, bundle_of}
-use Rattle.bundle_spelling.specs.Spelling.{SpellsStep, SpellsSteps, SpellsEvents, SpellsEventsAt, SpellsView, SpellsManifest, SpellsBundle, BundlesAreSpelled}
+use Rattle.bundle_files.specs.Files.{File, nodes_of, small_file, template_file, template_from, template_in}
+use Rattle.bundle_files.specs.Bundle.{Bundle, IsBundle, manifest_at}
+use Rattle.bundle_spelling.specs.Spelling.{SpellsStep, SpellsSteps, SpellsEvents, SpellsEventsAt, SpellsView, SpellsManifest, SpellsFile, SpellsBundle, BundlesAreSpelled}
 
 some_is : {X : Type 0} (x y : X) → Some x ≡ Some y → x ≡ y
 some_is x y h = cc
@@ -327,74 +330,6 @@ manifest_is bytes template mount events s =
 
 -- ---- the files
 
-long : (t : List ℕ) → 10 ≤ length (t ++ codes ".html.heex")
-long [] = omega arith
-long (a ∷ t) = omega (arith, long t)
-
-less_differs : (k l : ℕ) → k < l → k ≡ l → ⊥
-less_differs k l h e = omega (arith, h, e)
-
-longer_differs : (k : ℕ) → 10 ≤ k → suc (suc k) ≡ 11 → ⊥
-longer_differs k h e = omega (arith, h, e)
-
-names_differ : (t : List ℕ) → t ++ codes ".html.heex" ≡ codes "bundle.json" → ⊥
-names_differ [] h = less_differs 10 11 (omega arith) (ap length h)
-names_differ (a ∷ []) h = less_differs 46 117 (omega arith) (ap (λ (l : List ℕ). get_or l 1 0) h)
-names_differ (a ∷ b ∷ t) h = longer_differs (length (t ++ codes ".html.heex")) (long t) (ap length h)
-
-differ_false : (x y : List ℕ) → (x ≡ y → ⊥) → bytes_eq x y ≡ false
-differ_false x y h = by_test (bytes_eq x y) refl
-  where
-    by_test : (b : Bool) → bytes_eq x y ≡ b → b ≡ false
-    by_test true e = elim (h ((bytes_eq-Decides x y).0 e)) [ ]
-    by_test false e = refl
-
-file_is : (f : List ℕ × List ℕ) (x m : List ℕ) → x ≡ f.0 → f.1 ≡ m → f ≡ (x, m)
-file_is f x m e h = rw (e, sym h)
-
-abbrev AreFiles : List (List ℕ × List ℕ) → List ℕ → List ℕ → List ℕ → List ℕ → Type 0
-AreFiles fs x m y s = (fs ≡ (x, m) ∷ (y, s) ∷ []) ⊎ (fs ≡ (y, s) ∷ (x, m) ∷ [])
-
-two_files : (f g : List ℕ × List ℕ) (x m y s : List ℕ) → (y ≡ x → ⊥) → content_of x (f ∷ g ∷ []) ≡ Some m → content_of y (f ∷ g ∷ []) ≡ Some s → AreFiles (f ∷ g ∷ []) x m y s
-two_files f g x m y s n hm hs = by_test (bytes_eq x f.0) (bytes_eq x g.0) (bytes_eq y f.0) (bytes_eq y g.0) refl refl refl refl hm hs
-  where
-    by_test : (a b c d : Bool) → bytes_eq x f.0 ≡ a → bytes_eq x g.0 ≡ b → bytes_eq y f.0 ≡ c → bytes_eq y g.0 ≡ d → cond a (Some f.1) (cond b (Some g.1) None) ≡ Some m → cond c (Some f.1) (cond d (Some g.1) None) ≡ Some s → AreFiles (f ∷ g ∷ []) x m y s
-    by_test true b true d ea eb ec ed h k = elim (n ((bytes_eq-Decides y f.0).0 ec ∙ sym ((bytes_eq-Decides x f.0).0 ea))) [ ]
-    by_test true b false true ea eb ec ed h k =
-        let p : f ≡ (x, m) = file_is f x m ((bytes_eq-Decides x f.0).0 ea) (some_is f.1 m h) in
-        let q : g ≡ (y, s) = file_is g y s ((bytes_eq-Decides y g.0).0 ed) (some_is g.1 s k) in
-        inl (ap (λ (z : List ℕ × List ℕ). z ∷ g ∷ []) p ∙ ap (λ (z : List ℕ × List ℕ). (x, m) ∷ z ∷ []) q)
-    by_test true b false false ea eb ec ed h k = cc
-    by_test false true true d ea eb ec ed h k =
-        let p : f ≡ (y, s) = file_is f y s ((bytes_eq-Decides y f.0).0 ec) (some_is f.1 s k) in
-        let q : g ≡ (x, m) = file_is g x m ((bytes_eq-Decides x g.0).0 eb) (some_is g.1 m h) in
-        inr (ap (λ (z : List ℕ × List ℕ). z ∷ g ∷ []) p ∙ ap (λ (z : List ℕ × List ℕ). (y, s) ∷ z ∷ []) q)
-    by_test false true false true ea eb ec ed h k = elim (n ((bytes_eq-Decides y g.0).0 ed ∙ sym ((bytes_eq-Decides x g.0).0 eb))) [ ]
-    by_test false true false false ea eb ec ed h k = cc
-    by_test false false c d ea eb ec ed h k = cc
-
-three_differ : (k : ℕ) → suc (suc (suc k)) ≡ 2 → ⊥
-three_differ k e = omega (arith, e)
-
-files_are : (fs : List (List ℕ × List ℕ)) (x m y s : List ℕ) → length fs ≡ 2 → (y ≡ x → ⊥) → content_of x fs ≡ Some m → content_of y fs ≡ Some s → AreFiles fs x m y s
-files_are [] x m y s l n hm hs = elim (less_differs 0 2 (omega arith) l) [ ]
-files_are (f ∷ []) x m y s l n hm hs = elim (less_differs 1 2 (omega arith) l) [ ]
-files_are (f ∷ g ∷ []) x m y s l n hm hs = two_files f g x m y s n hm hs
-files_are (f ∷ g ∷ h ∷ fs) x m y s l n hm hs = elim (three_differ (length fs) l) [ ]
-
-if_false : {X : Type 0} (b : Bool) (x y : X) → b ≡ false → cond b x y ≡ y
-if_false b x y e = rw e
-
-first : (x m : List ℕ) (fs : List (List ℕ × List ℕ)) → content_of x ((x, m) ∷ fs) ≡ Some m
-first x m fs = if_true (bytes_eq x x) (Some m) (content_of x fs) (bytes_same x)
-
-second : (x m y s : List ℕ) (fs : List (List ℕ × List ℕ)) → (y ≡ x → ⊥) → content_of y ((x, m) ∷ (y, s) ∷ fs) ≡ Some s
-second x m y s fs n = if_false (bytes_eq y x) (Some m) (content_of y ((y, s) ∷ fs)) (differ_false y x n) ∙ first y s fs
-
-contents : (fs : List (List ℕ × List ℕ)) (x m y s : List ℕ) → (y ≡ x → ⊥) → AreFiles fs x m y s → (length fs ≡ 2) × (content_of x fs ≡ Some m) × (content_of y fs ≡ Some s)
-contents fs x m y s n (inl e) = (ap length e, ap (content_of x) e ∙ first x m ((y, s) ∷ []), ap (content_of y) e ∙ second x m y s [] n)
-contents fs x m y s n (inr e) = (ap length e, ap (content_of x) e ∙ second y s x m [] (λ h. n (sym h)), ap (content_of y) e ∙ first y s ((x, m) ∷ []))
-
 small_parts : (x : List ℕ) (fs : List (List ℕ × List ℕ)) (m : List ℕ) → small_file x fs ≡ Some m → (content_of x fs ≡ Some m) × (length m ≤ 1048576)
 small_parts x fs m h =
     let a = and_then_parts (λ (bytes : List ℕ). cond (nat_le (length bytes) 1048576) (Some bytes) None) (content_of x fs) m h in
@@ -404,46 +339,64 @@ small_parts x fs m h =
 small_is : (x : List ℕ) (fs : List (List ℕ × List ℕ)) (m : List ℕ) → content_of x fs ≡ Some m → length m ≤ 1048576 → small_file x fs ≡ Some m
 small_is x fs m h l = ap (option_and_then (λ (bytes : List ℕ). cond (nat_le (length bytes) 1048576) (Some bytes) None)) h ∙ if_true (nat_le (length m) 1048576) (Some m) None (le-leb (length m) 1048576 l)
 
+from_parts : (name bytes : List ℕ) (ns : Nodes) → template_from name bytes ≡ Some ns → (is_template_name name ≡ true) × (length bytes ≤ 1048576) × IsUtf8 bytes × SpellsTemplate bytes ns
+from_parts name bytes ns h =
+    let c = cond_some (is_template_name name && nat_le (length bytes) 1048576) (template_in bytes) ns h in
+    let p = and_parts (is_template_name name) (nat_le (length bytes) 1048576) c.0 in
+    let u = cond_some (is_utf8 bytes) (template_of bytes) ns c.1 in
+    (p.0, leb-true (length bytes) 1048576 p.1, IsUtf8-from_is_utf8 bytes u.0, (templates_are_spelled bytes ns).0 u.1)
+
+from_is : (name bytes : List ℕ) (ns : Nodes) → is_template_name name ≡ true → length bytes ≤ 1048576 → IsUtf8 bytes → SpellsTemplate bytes ns → template_from name bytes ≡ Some ns
+from_is name bytes ns n l u h =
+    ap (λ v. cond (v && nat_le (length bytes) 1048576) (template_in bytes) None) n ∙ ap (λ v. cond v (template_in bytes) None) (le-leb (length bytes) 1048576 l)
+    ∙ if_true (is_utf8 bytes) (template_of bytes) None (is_utf8-from_IsUtf8 bytes u) ∙ (templates_are_spelled bytes ns).1 h
+
+abbrev Each : List File → List ℕ → Option Nodes → Type 0
+Each fs name o = MatchOption o (content_of (template_file name) fs ≡ None) (SpellsFile fs name)
+
+each_spells : (fs : List File) (name : List ℕ) (c : Option (List ℕ)) (o : Option Nodes) → content_of (template_file name) fs ≡ c → option_map (template_from name) c ≡ option_map Some o → Each fs name o
+each_spells fs name None None e h = e
+each_spells fs name None (Some ns) e h = cc
+each_spells fs name (Some bytes) None e h = cc
+each_spells fs name (Some bytes) (Some ns) e h =
+    let p = from_parts name bytes ns (some_is (template_from name bytes) (Some ns) h) in
+    record { source = bytes; there = e; named = p.0; small = p.1; utf8 = p.2; spells = p.3 }
+
+each_is : (fs : List File) (name : List ℕ) (o : Option Nodes) → Each fs name o → option_map (template_from name) (content_of (template_file name) fs) ≡ option_map Some o
+each_is fs name None h = ap (option_map (template_from name)) h
+each_is fs name (Some ns) h = ap (option_map (template_from name)) h.there ∙ ap Some (from_is name h.source ns h.named h.small h.utf8 h.spells)
+
 -- ---- a bundle
 
-abbrev bundle : Nodes → Steps → List (KeyValue Steps) → Bundle
-bundle template mount events = record { template = template; mount = mount; events = events }
-
-bundle_spells : (fs : List (List ℕ × List ℕ)) (b : Bundle) → bundle_of fs ≡ Some b → SpellsBundle fs b
+bundle_spells : (fs : List File) (b : Bundle) → IsBundle fs b → SpellsBundle fs b
 bundle_spells fs b h =
-    let c = cond_some (length fs == 2) (option_and_then (bundle_with fs) (option_and_then manifest_in (small_file (codes "bundle.json") fs))) b h in
-    let m = and_then_parts (bundle_with fs) (option_and_then manifest_in (small_file (codes "bundle.json") fs)) b c.1 in
-    let i = and_then_parts manifest_in (small_file (codes "bundle.json") fs) m.0 m.1 in
-    let name : List ℕ = m.0.template ++ codes ".html.heex" in
-    let t = map_parts (λ (p : Nodes). bundle p m.0.mount m.0.events) (option_and_then template_in (small_file name fs)) b m.2 in
-    let s = and_then_parts template_in (small_file name fs) t.0 t.1 in
-    let mf = small_parts (codes "bundle.json") fs i.0 i.1 in
-    let sf = small_parts name fs s.0 s.1 in
-    let u = cond_some (is_utf8 s.0) (template_of s.0) t.0 s.2 in
-    let spelled : SpellsBundle fs (bundle t.0 m.0.mount m.0.events) = record {
-      template = m.0.template;
-      manifest = i.0;
-      source = s.0;
-      two = files_are fs (codes "bundle.json") i.0 name s.0 (eqb-true (length fs) 2 c.0) (names_differ m.0.template) mf.0 sf.0;
-      manifest_small = mf.1;
-      source_small = sf.1;
-      says = manifest_spells i.0 m.0 i.2;
-      utf8 = IsUtf8-from_is_utf8 s.0 u.0;
-      reads = (templates_are_spelled s.0 t.0).0 u.1;
-    } in
-    subst (λ (x : Bundle). SpellsBundle fs x) t.2 spelled
+    let i = and_then_parts manifest_in (small_file (codes "bundle.json") fs) h.1.manifest h.1.says in
+    let p = small_parts (codes "bundle.json") fs i.0 i.1 in
+    record {
+      manifest = h.1.manifest;
+      templates = h.1.templates;
+      bytes = i.0;
+      few = h.0;
+      there = p.0;
+      small = p.1;
+      says = manifest_spells i.0 h.1.manifest i.2;
+      spell = record { ascending = h.1.spells.ascending; each = λ name. each_spells fs name (content_of (template_file name) fs) (nodes_of name (map template_view h.1.templates)) refl (h.1.spells.each name) };
+      holds = h.1.holds;
+    }
 
-bundle_is : (fs : List (List ℕ × List ℕ)) (b : Bundle) → SpellsBundle fs b → bundle_of fs ≡ Some b
-bundle_is fs b r =
-    let name : List ℕ = r.template ++ codes ".html.heex" in
-    let c = contents fs (codes "bundle.json") r.manifest name r.source (names_differ r.template) r.two in
-    let m : small_file (codes "bundle.json") fs ≡ Some r.manifest = small_is (codes "bundle.json") fs r.manifest c.1 r.manifest_small in
-    let s : small_file name fs ≡ Some r.source = small_is name fs r.source c.2 r.source_small in
-    let read_as : template_in r.source ≡ Some b.template = if_true (is_utf8 r.source) (template_of r.source) None (is_utf8-from_IsUtf8 r.source r.utf8) ∙ (templates_are_spelled r.source b.template).1 r.reads in
-    let said : option_and_then manifest_in (small_file (codes "bundle.json") fs) ≡ Some (manifest r.template b.mount b.events) = ap (option_and_then manifest_in) m ∙ manifest_is r.manifest r.template b.mount b.events r.says in
-    let two : (length fs == 2) ≡ true = ap (λ (k : ℕ). k == 2) c.0 in
-    if_true (length fs == 2) (option_and_then (bundle_with fs) (option_and_then manifest_in (small_file (codes "bundle.json") fs))) None two
-    ∙ ap (option_and_then (bundle_with fs)) said ∙ ap (option_map (λ (p : Nodes). bundle p b.mount b.events)) (ap (option_and_then template_in) s ∙ read_as)
+bundle_is : (fs : List File) (b : Bundle) → SpellsBundle fs b → IsBundle fs b
+bundle_is fs b s =
+    let says : manifest_at fs ≡ Some s.manifest =
+    ap (option_and_then manifest_in) (small_is (codes "bundle.json") fs s.bytes s.there s.small) ∙ manifest_is s.bytes s.manifest.template s.manifest.mount s.manifest.events s.says in (
+      s.few,
+      record {
+        manifest = s.manifest;
+        templates = s.templates;
+        says = says;
+        spells = record { ascending = s.spell.ascending; each = λ name. each_is fs name (nodes_of name (map template_view s.templates)) (s.spell.each name) };
+        holds = s.holds;
+      },
+    )
 
 pub bundles_are_spelled : BundlesAreSpelled
 bundles_are_spelled fs b = (bundle_spells fs b, bundle_is fs b)

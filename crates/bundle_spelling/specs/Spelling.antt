@@ -1,15 +1,22 @@
 -- Which folders spell a bundle.
-use Rattle.std.specs.Prelude.{◌≡◌, ◌≤◌, ◌⊎◌, ◌↔◌, ℕ, List, [], ◌∷◌, ◌++◌, length, codes, true, Option, Some, None}
+use Rattle.std.specs.Prelude.{◌≡◌, ◌≤◌, ◌↔◌, ℕ, List, [], ◌∷◌, length, map, filter, codes, true, IsTrue, Option, Some, None, MatchOption}
 use Rattle.std.specs.Str.{IsUtf8}
 use Rattle.serde_json.specs.Data.{unsigned, Data, number, string, array, object, Items, no_items, item, Members, no_members, member}
 use Rattle.serde_json.specs.Read.{read}
 use Rattle.serde_json.specs.Find.{get}
 use Rattle.text_core.specs.declared.by_key.KeyValue.{KeyValue}
+use Rattle.text_core.specs.Keyed.{ascend}
+use Rattle.text_core.specs.Outside.{content_of}
+use Rattle.ast_core.specs.LinkedView.{template_view}
+use Rattle.ast_core.specs.Syntax as model
+use Rattle.ast_core.specs.Syntax.{Nodes}
+use Rattle.ast_core.specs.declared.linked.Template.{Template}
 use Rattle.template_reader.specs.Formula.{SpellsFormula}
 use Rattle.template_reader.specs.Reading.{SpellsTemplate}
 use Rattle.bundle_files.specs.Steps.{Step, assign_step, when_step, Steps, no_steps, step}
-use Rattle.bundle_files.specs.Manifest.{count_of, is_template_name, view_members}
-use Rattle.bundle_files.specs.Bundle.{Bundle, bundle_of}
+use Rattle.bundle_files.specs.Manifest.{Manifest, count_of, is_template_name, view_members}
+use Rattle.bundle_files.specs.Files.{File, is_read, names, nodes_of, template_file}
+use Rattle.bundle_files.specs.Bundle.{Bundle, IsBundle, IsBundleOf}
 
 -- `["assign",NAME,E]` and `["when",E,[STEP,..],[STEP,..]]`, where E is written as the expression
 abbrev mutual
@@ -60,19 +67,33 @@ pub record SpellsManifest (bytes template : List ℕ) (mount : Steps) (events : 
   pub views : get (codes "views") whole ≡ Some (array (item view no_items))
   pub spells : SpellsView view template mount events
 
--- two files of at most 1,048,576 bytes: the manifest `bundle.json`, and the template that it names
-pub record SpellsBundle (files : List (List ℕ × List ℕ)) (bundle : Bundle) : Type 0 where
-  pub template : List ℕ
-  pub manifest : List ℕ
+-- the file of the template of that name: it has at most 1,048,576 bytes, which are UTF-8 and spell the nodes
+pub record SpellsFile (files : List File) (name : List ℕ) (nodes : Nodes) : Type 0 where
   pub source : List ℕ
-  pub two : (files ≡ (codes "bundle.json", manifest) ∷ (template ++ codes ".html.heex", source) ∷ [])
-      ⊎ (files ≡ (template ++ codes ".html.heex", source) ∷ (codes "bundle.json", manifest) ∷ [])
-  pub manifest_small : length manifest ≤ 1048576
-  pub source_small : length source ≤ 1048576
-  pub says : SpellsManifest manifest template bundle.mount bundle.events
+  pub there : content_of (template_file name) files ≡ Some source
+  pub named : is_template_name name ≡ true
+  pub small : length source ≤ 1048576
   pub utf8 : IsUtf8 source
-  pub reads : SpellsTemplate source bundle.template
+  pub spells : SpellsTemplate source nodes
+
+-- templates in byte order of their names, each from its file; a name of no template has no file
+pub record SpellTemplates (files : List File) (ts : List model.Template) : Type 0 where
+  pub ascending : IsTrue (ascend (names ts))
+  pub each : (name : List ℕ) → MatchOption (nodes_of name ts) (content_of (template_file name) files ≡ None) (SpellsFile files name)
+
+-- at most 256 files that are read: the manifest `bundle.json`, of at most 1,048,576 bytes, and templates, which together
+-- are the bundle
+pub record SpellsBundle (files : List File) (bundle : Bundle) : Type 0 where
+  pub manifest : Manifest
+  pub templates : List Template
+  pub bytes : List ℕ
+  pub few : length (filter is_read (map (λ f. f.0) files)) ≤ 256
+  pub there : content_of (codes "bundle.json") files ≡ Some bytes
+  pub small : length bytes ≤ 1048576
+  pub says : SpellsManifest bytes manifest.template manifest.mount manifest.events
+  pub spell : SpellTemplates files (map template_view templates)
+  pub holds : IsBundleOf manifest templates bundle
 
 -- files are a bundle exactly where they spell it
 abbrev pub BundlesAreSpelled : Type 0
-BundlesAreSpelled = (files : List (List ℕ × List ℕ)) (bundle : Bundle) → (bundle_of files ≡ Some bundle) ↔ SpellsBundle files bundle
+BundlesAreSpelled = (files : List File) (bundle : Bundle) → IsBundle files bundle ↔ SpellsBundle files bundle
